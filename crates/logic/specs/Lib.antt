@@ -1,0 +1,7 @@
+pub mod Limits
+pub mod Syntax
+pub mod Words
+pub mod Structures
+pub mod Names
+pub mod Symbols
+pub mod Lawful
