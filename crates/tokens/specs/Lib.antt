@@ -1,0 +1,4 @@
+pub mod Faults
+pub mod Bytes
+pub mod Tokens
+pub mod Forms
