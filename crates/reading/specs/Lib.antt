@@ -1,0 +1,6 @@
+pub mod Limits
+pub mod States
+pub mod Entering
+pub mod Terms
+pub mod Clauses
+pub mod Bindings
