@@ -5,3 +5,4 @@ pub mod Structures
 pub mod Names
 pub mod Symbols
 pub mod Lawful
+pub mod Directory
