@@ -6,3 +6,5 @@ pub mod Names
 pub mod Symbols
 pub mod Lawful
 pub mod Directory
+pub mod Walks
+pub mod Injective

@@ -1,6 +1,7 @@
 //! The language of clauses: symbols, words, and which words are those of a clause.
 mod directory;
 mod entry;
+mod injective;
 mod limits;
 mod names;
 mod row;
@@ -11,6 +12,7 @@ pub use directory::find;
 pub use entry::Entry;
 pub use entry::EntryByNumber;
 pub use entry::entry_numbered;
+pub use injective::words_determine_the_clause;
 pub use limits::ARGUMENTS;
 pub use limits::DEPTH;
 pub use limits::EQUALITY_WORD;
