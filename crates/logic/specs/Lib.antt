@@ -5,3 +5,6 @@ pub mod Structures
 pub mod Names
 pub mod Symbols
 pub mod Lawful
+pub mod Directory
+pub mod Walks
+pub mod Injective

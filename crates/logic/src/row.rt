@@ -1,6 +1,7 @@
 //! Symbols as they lie in the symbol store.
 ghost use mathlib.Core.Path.{_≡_};
 ghost use Rattle.logic.specs.Symbols.{same-kind};
+use crate::limits::NAME_BYTES;
 
 /// What a symbol heads: a term or an atom.
 #[derive(Clone, Copy)]
@@ -24,7 +25,7 @@ impl Kind {
 /// A row of the symbol store: plain numbers, of which anything may have been written.
 #[derive(Clone, Copy)]
 pub struct SymbolRow {
-    pub name: [u8; 16],
+    pub name: [u8; NAME_BYTES],
     pub length: u8,
     pub kind: Kind,
     pub arity: u8,
