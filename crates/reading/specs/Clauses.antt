@@ -10,13 +10,15 @@ use Rattle.std.specs.declared.result.Result.{Result}
 use Rattle.std.specs.declared.result.Result.the-variants.{Ok, Err}
 use Rattle.logic.specs.Limits as limits
 use Rattle.logic.specs.Words.{symbol-word, equality-word, negation}
+use Rattle.logic.specs.declared.row.SymbolRow.{SymbolRow}
 use Rattle.logic.specs.declared.row.Kind.the-variants.{Predicate}
 use Rattle.tokens.specs.declared.fault.Fault.{Fault}
-use Rattle.tokens.specs.declared.fault.Fault.the-variants.{Due, ManyLiterals}
+use Rattle.tokens.specs.declared.fault.Fault.the-variants.{Due, ManyLiterals, Count}
 use Rattle.tokens.specs.Tokens.{Tok, opens, closes, equals, number, variable, word, lex}
 use Rattle.reading.specs.declared.mark.Mark.{Mark}
 use Rattle.reading.specs.declared.mark.Mark.the-variants.{Closed, Opened}
-use Rattle.reading.specs.States.{State, Halt, _>>=_, _then_, from, moved, written}
+use Rattle.reading.specs.declared.cursor.Purpose.{Purpose}
+use Rattle.reading.specs.States.{State, Halt, halt, _>>=_, _then_, from, moved, written, exceeds}
 use Rattle.reading.specs.Terms.{application, term}
 
 -- where an opening bracket is due: the place behind it
@@ -28,7 +30,7 @@ opened at end (number r) = Err (Due at)
 opened at end (variable r) = Err (Due at)
 opened at end (word r) = Err (Due at)
 
-unfoldable pub opening : List ℕ → ℕ → Result ℕ Fault
+abbrev pub opening : List ℕ → ℕ → Result ℕ Fault
 opening bs p = lex bs p then λ l. opened (l .place) (l .end) (l .tok)
 
 -- where a closing bracket is due: the place behind it
@@ -40,7 +42,7 @@ closed at end (number r) = Err (Due at)
 closed at end (variable r) = Err (Due at)
 closed at end (word r) = Err (Due at)
 
-unfoldable pub closing : List ℕ → ℕ → Result ℕ Fault
+abbrev pub closing : List ℕ → ℕ → Result ℕ Fault
 closing bs p = lex bs p then λ l. closed (l .place) (l .end) (l .tok)
 
 -- where a certain word is due: the place behind it
@@ -52,7 +54,7 @@ worded w at end (number r) = Err (Due at)
 worded w at end (variable r) = Err (Due at)
 worded w at end (word r) = cond (sameBytes r w) (Ok end) (Err (Due at))
 
-unfoldable pub wording : List ℕ → List ℕ → ℕ → Result ℕ Fault
+abbrev pub wording : List ℕ → List ℕ → ℕ → Result ℕ Fault
 wording w bs p = lex bs p then λ l. worded w (l .place) (l .end) (l .tok)
 
 -- where one more of a list or its closing bracket is due
@@ -69,7 +71,12 @@ abbrev pub Mark-on : ℕ → ℕ → Mark → Type 0
 Mark-on len p (Closed e) = (p < e) × (e ≤ len)
 Mark-on len p (Opened e) = (p < e) × (e ≤ len)
 
-unfoldable pub literal-mark : List ℕ → Bool → ℕ → Result Mark Fault
+-- the list ends there
+abbrev pub Is-closed : Mark → Type 0
+Is-closed (Closed e) = Unit {0}
+Is-closed (Opened e) = ⊥
+
+abbrev pub literal-mark : List ℕ → Bool → ℕ → Result Mark Fault
 literal-mark bs none p = lex bs p then λ l. marked (ManyLiterals (l .place)) none (l .place) (l .end) (l .tok)
 
 abbrev pub is-equals : Tok → Bool
@@ -103,12 +110,12 @@ module _ (bs : List ℕ) where
       Ok (moved r e)
 
   -- an atom behind its opening bracket, whose head has `sign` added
-  unfoldable pub atom : ℕ → State → Result State Halt
+  abbrev pub atom : ℕ → State → Result State Halt
   atom sign st =
       from st (lex bs (st .pos)) >>= λ l.
       cond (is-equals (l .tok))
-        (sides (written st (l .end) (sign + equality-word)))
-        (application bs limits.depth (sign + symbol-word 0) Predicate st)
+      (sides (written st (l .end) (sign + equality-word)))
+      (application bs limits.depth (sign + symbol-word 0) Predicate st)
 
   -- the atom of a negated literal, behind the word `not`
   unfoldable pub negated : State → Result State Halt
@@ -130,8 +137,14 @@ module _ (bs : List ℕ) where
   literal-list (suc left) st = from st (literal-mark bs (eqb left 0) (st .pos)) >>= mark-turn literal (literal-list left) st
 
   -- a clause
-  unfoldable pub clause : State → Result State Halt
+  abbrev pub clause : State → Result State Halt
   clause st =
       from st (opening bs (st .pos)) >>= λ i.
       from st (wording (codes "or") bs i) >>= λ e.
       literal-list (limits.literals + 1) (moved st e)
+
+  -- a clause from a place on, into a store of its own; the count of symbols must not exceed their store
+  abbrev pub clause-from : Purpose → ℕ → List ℕ → ℕ → List SymbolRow → Result State Halt
+  clause-from p pos out n rows =
+      cond (exceeds n rows) (Err (halt Count n rows))
+      (clause (record { purpose = p; pos = pos; count = 0; out = out; symbols = n; rows = rows }))

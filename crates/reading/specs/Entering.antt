@@ -19,7 +19,7 @@ use Rattle.tokens.specs.Tokens.{lex}
 use Rattle.tokens.specs.Forms.{symbol-form}
 use Rattle.reading.specs.declared.cursor.Purpose.{Purpose}
 use Rattle.reading.specs.declared.symbols.Head.{Head}
-use Rattle.reading.specs.States.{State, Halt, halt, _>>=_, from, with-symbols, enters, full}
+use Rattle.reading.specs.States.{Halt, halt, _>>=_, lift, enters, full}
 
 -- the arity of a symbol whose first closing bracket is still to come
 abbrev pub open-arity : ℕ
@@ -40,12 +40,12 @@ met (Ok s) n rows = Ok (record { symbol = s; symbols = n; rows = rows })
 met (Err f) n rows = Err (halt f n rows)
 
 -- one symbol more, where names are entered and there is room
-unfoldable pub enter : Purpose → Kind → List ℕ → ℕ → ℕ → List SymbolRow → Result Met Halt
+abbrev pub enter : Purpose → Kind → List ℕ → ℕ → ℕ → List SymbolRow → Result Met Halt
 enter p k name at n rows =
     cond (enters p)
     (cond (ltb n limits.symbols && ltb n (length rows))
-      (Ok (record { symbol = n; symbols = n + 1; rows = set rows n (new-row name k) }))
-      (Err (halt (ManySymbols at) n rows)))
+    (Ok (record { symbol = n; symbols = n + 1; rows = set rows n (new-row name k) }))
+    (Err (halt (ManySymbols at) n rows)))
     (Err (halt (Unknown at) n rows))
 
 abbrev pub known : Purpose → Kind → List ℕ → ℕ → ℕ → List SymbolRow → Option ℕ → Result Met Halt
@@ -54,7 +54,7 @@ known p k name at n rows (Some s) =
     cond (same-kind (row-at rows s .kind) k) (Ok (record { symbol = s; symbols = n; rows = rows })) (Err (halt (OtherKind at) n rows))
 
 -- the symbol of a name: one of the n counted, or a new one
-unfoldable pub meet : Purpose → Kind → List ℕ → ℕ → ℕ → List SymbolRow → Result Met Halt
+abbrev pub meet : Purpose → Kind → List ℕ → ℕ → ℕ → List SymbolRow → Result Met Halt
 meet p k name at n rows = known p k name at n rows (place-of-name (take n rows) name)
 
 abbrev pub room-for-word : {A : Type 0} → Purpose → ℕ → ℕ → Result A Fault → Result A Fault
@@ -73,12 +73,12 @@ headed (Ok h) n rows = Ok (record { symbol = h .symbol; place = h .place; end = 
 headed (Err f) n rows = Err (halt f n rows)
 
 -- the symbol that is due
-unfoldable pub head : List ℕ → Kind → State → Result Headed Halt
-head bs k st =
-    from st (lex bs (st .pos)) >>= λ l.
-    from st (symbol-form (l .tok) (l .place)) >>= λ name.
-    from st (room-for-word (st .purpose) (st .count) (l .place) (Ok tt)) >>= λ u.
-    meet (st .purpose) k name (l .place) (st .symbols) (st .rows) >>= λ m.
+abbrev pub head : List ℕ → Kind → Purpose → ℕ → ℕ → ℕ → List SymbolRow → Result Headed Halt
+head bs k p pos count n rows =
+    lift n rows (lex bs pos) >>= λ l.
+    lift n rows (symbol-form (l .tok) (l .place)) >>= λ name.
+    lift n rows (room-for-word {A = Unit {0}} p count (l .place) (Ok tt)) >>= λ u.
+    meet p k name (l .place) n rows >>= λ m.
     Ok (record { symbol = m .symbol; place = l .place; end = l .end; symbols = m .symbols; rows = m .rows })
 
 -- a row whose arity is fixed
@@ -90,7 +90,7 @@ settled (Ok u) rows = Ok rows
 settled (Err f) rows = Err f
 
 -- the closing bracket: the arity is fixed, or has to be as it was
-unfoldable pub settle : List SymbolRow → ℕ → ℕ → ℕ → Result (List SymbolRow) Fault
+abbrev pub settle : List SymbolRow → ℕ → ℕ → ℕ → Result (List SymbolRow) Fault
 settle rows s given at =
     cond (ltb limits.arguments (row-at rows s .arity)) (Ok (set rows s (with-arity (row-at rows s) given)))
     (cond (eqb (row-at rows s .arity) given) (Ok rows) (Err (OtherArity at)))

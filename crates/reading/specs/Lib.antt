@@ -3,4 +3,3 @@ pub mod States
 pub mod Entering
 pub mod Terms
 pub mod Clauses
-pub mod Bindings

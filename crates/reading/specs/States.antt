@@ -1,16 +1,18 @@
 -- How far reading has come, and how it goes on.
-use mathlib.Core.Bool.{Bool, true, false}
+use mathlib.Core.Bool.{Bool, true, false, _||_, cond}
 use mathlib.Core.List.{List}
 use Prim.Native.Nat.{ℕ, _+_}
-use lib.Dec.{leb}
-use lib.ListN.{set}
+use lib.Dec.{leb, ltb}
+use lib.ListN.{length, set}
 use Rattle.std.specs.declared.result.Result.{Result}
 use Rattle.std.specs.declared.result.Result.the-variants.{Ok, Err}
 use Rattle.logic.specs.declared.row.SymbolRow.{SymbolRow}
 use Rattle.tokens.specs.declared.fault.Fault.{Fault}
+use Rattle.tokens.specs.declared.fault.Fault.the-variants.{Count}
 use Rattle.reading.specs.declared.cursor.Cursor.{Cursor}
 use Rattle.reading.specs.declared.cursor.Purpose.{Purpose}
 use Rattle.reading.specs.declared.cursor.Purpose.the-variants.{Rule, Step, Binding}
+use Rattle.logic.specs.Limits as language
 use Rattle.reading.specs.Limits as limits
 
 -- what is read, the place in the line, the words so far and their store, the symbols so far and their store
@@ -51,10 +53,14 @@ abbrev pub _then_ : {A B : Type 0} → Result A Fault → (A → Result B Fault)
 _then_ (Ok a) k = k a
 _then_ (Err f) k = Err f
 
--- a reading that writes nothing, from a state
+-- a reading that meets no symbol
+abbrev pub lift : {A : Type 0} → ℕ → List SymbolRow → Result A Fault → Result A Halt
+lift n rows (Ok a) = Ok a
+lift n rows (Err f) = Err (halt f n rows)
+
+-- the same from a state
 abbrev pub from : {A : Type 0} → State → Result A Fault → Result A Halt
-from st (Ok a) = Ok a
-from st (Err f) = Err (halt f (st .symbols) (st .rows))
+from st r = lift (st .symbols) (st .rows) r
 
 abbrev pub moved : State → ℕ → State
 moved st end = record { purpose = st .purpose; pos = end; count = st .count; out = st .out; symbols = st .symbols; rows = st .rows }
@@ -79,3 +85,10 @@ abbrev pub full : Purpose → ℕ → Bool
 full Rule n = false
 full Step n = false
 full Binding n = leb limits.binding-words n
+
+-- the count of symbols exceeds their store, of which at most the limit is used
+abbrev pub exceeds : ℕ → List SymbolRow → Bool
+exceeds n rows = ltb (length rows) n || ltb language.symbols n
+
+abbrev pub count-checked : ℕ → List SymbolRow → Result Unit Fault
+count-checked n rows = cond (exceeds n rows) (Err Count) (Ok tt)

@@ -39,7 +39,7 @@ slot-at deep words more at end (number r) = Err (Due at)
 slot-at deep words more at end (variable r) = variable-form r at then λ i. fitting deep words more at (Ok (Variable i end))
 slot-at deep words more at end (word r) = Err (Due at)
 
-unfoldable pub slot : List ℕ → Bool → Bool → Bool → ℕ → Result Slot Fault
+abbrev pub slot : List ℕ → Bool → Bool → Bool → ℕ → Result Slot Fault
 slot bs deep words more p = lex bs p then λ l. slot-at deep words more (l .place) (l .end) (l .tok)
 
 -- a slot lies behind p and within the line; an argument is not too deep and is one of four
@@ -72,7 +72,7 @@ module _ (bs : List ℕ) where
   -- from the symbol on to the closing bracket
   abbrev pub body : (State → Result State Halt) → Bool → ℕ → Kind → State → Result State Halt
   body nested deep base k st =
-      head bs k st >>= λ h.
+      head bs k (st .purpose) (st .pos) (st .count) (st .symbols) (st .rows) >>= λ h.
       args nested deep (limits.arguments + 1) 0 (headed-state st h (base + h .symbol)) >>= λ g.
       from (g .1) (settle (g .1 .rows) (h .symbol) (g .0) (h .place)) >>= λ rows.
       Ok (with-rows (g .1) rows)
@@ -92,5 +92,5 @@ module _ (bs : List ℕ) where
   term-turn room st (Opened e) = application (room - 1) (symbol-word 0) Function (moved st e)
 
   -- a term that may go `room` deep
-  unfoldable pub term : ℕ → State → Result State Halt
+  abbrev pub term : ℕ → State → Result State Halt
   term room st = from st (slot bs (eqb room 0) (full (st .purpose) (st .count)) false (st .pos)) >>= term-turn room st

@@ -1,7 +1,10 @@
 //! Where reading stands.
 ghost use mathlib.Core.Path.{_≡_};
 ghost use lib.ListN.{set};
-ghost use Rattle.reading.specs.States.{enters as entersOf, full as fullOf};
+ghost use Rattle.reading.specs.States.{enters as entersOf, full as fullOf, count-checked};
+use logic::SYMBOLS;
+use logic::SymbolRow;
+use tokens::Fault;
 
 /// How many words the terms of bindings may have together.
 pub const BINDING_WORDS: usize = 512;
@@ -49,4 +52,14 @@ pub fn put(out: &mut [u32], at: usize, word: u32)
     if at < out.len() {
         out[at] = word;
     }
+}
+
+/// Refuses a count of symbols that exceeds their store.
+pub fn check_count(rows: &[SymbolRow], symbols: usize) -> Result<(), Fault>
+    ensures { λ r. ⌜ r ≡ count-checked symbols (now (rows .entry)) ⌝ }
+{
+    if symbols > rows.len() || symbols > SYMBOLS {
+        return Err(Fault::Count);
+    }
+    Ok(())
 }

@@ -1,6 +1,14 @@
 //! From a line's text to the words of terms and clauses.
+mod clause;
 mod cursor;
+mod mark;
 mod symbols;
+mod term;
 
+pub use clause::read_clause;
 pub use cursor::Cursor;
 pub use cursor::Purpose;
+pub use cursor::check_count;
+pub use mark::close;
+pub use mark::open;
+pub use mark::word;

@@ -4,8 +4,7 @@ ghost use mathlib.Core.List.{_++_};
 ghost use Prim.Native.Nat.{_-_, _<_, _≤_};
 ghost use lib.ListN.{length, replicate};
 ghost use Rattle.std.specs.declared.result.Result.the-variants.{Ok};
-ghost use Rattle.std.specs.Vec.{made};
-ghost use Rattle.reading.specs.States.{state};
+ghost use Rattle.std.specs.Vec.{made, refused};
 ghost use Rattle.reading.specs.Entering.{room-for-word, met, enter as enterOf, meet as meetOf, headed, head as headOf, settled, settle as settleOf};
 use crate::cursor::Cursor;
 use crate::cursor::Purpose;
@@ -62,8 +61,11 @@ fn enter(
     name: &[u8],
     place: usize,
 ) -> Result<usize, Fault>
-    requires { ⌜ length (now name) ≤ 16 ⌝ }
+    requires short { ⌜ length (now name) ≤ 16 ⌝ }
+    requires counted { ⌜ (now symbols ≤ length (now rows)) × (now symbols ≤ 256) ⌝ }
     ensures is { λ r. ⌜ met r (now (symbols .exit)) (now (rows .exit)) ≡ enterOf purpose kind (now (name .entry)) place (now (symbols .entry)) (now (rows .entry)) ⌝ }
+    ensures on { λ r. ⌜ made r (λ s. s < now (symbols .exit)) ⌝ }
+    ensures counted { λ r. ⌜ (now (symbols .exit) ≤ length (now (rows .entry))) × (now (symbols .exit) ≤ 256) × (now (symbols .entry) ≤ now (symbols .exit)) ⌝ }
 {
     let s = *symbols;
     if !enters(purpose) {
@@ -80,4 +82,71 @@ fn enter(
     };
     *symbols = s + 1;
     Ok(s)
+}
+
+/// The symbol of a name: one of those counted, or a new one.
+fn meet(
+    rows: &mut [SymbolRow],
+    symbols: &mut usize,
+    purpose: Purpose,
+    kind: Kind,
+    name: &[u8],
+    place: usize,
+) -> Result<usize, Fault>
+    requires short { ⌜ length (now name) ≤ 16 ⌝ }
+    requires counted { ⌜ (now symbols ≤ length (now rows)) × (now symbols ≤ 256) ⌝ }
+    ensures is { λ r. ⌜ met r (now (symbols .exit)) (now (rows .exit)) ≡ meetOf purpose kind (now (name .entry)) place (now (symbols .entry)) (now (rows .entry)) ⌝ }
+    ensures on { λ r. ⌜ made r (λ s. s < now (symbols .exit)) ⌝ }
+    ensures counted { λ r. ⌜ (now (symbols .exit) ≤ length (now (rows .entry))) × (now (symbols .exit) ≤ 256) × (now (symbols .entry) ≤ now (symbols .exit)) ⌝ }
+{
+    match symbol_named(&rows[0..*symbols], name) {
+        Some(s) => {
+            if rows[s].kind.is(kind) {
+                Ok(s)
+            } else {
+                Err(Fault::OtherKind(place))
+            }
+        }
+        None => enter(rows, symbols, purpose, kind, name, place),
+    }
+}
+
+/// The symbol that is due.
+pub fn read_head(
+    line: &[u8],
+    rows: &mut [SymbolRow],
+    symbols: &mut usize,
+    from: Cursor,
+    kind: Kind,
+) -> Result<Head, Fault>
+    requires { ⌜ (now symbols ≤ length (now rows)) × (now symbols ≤ 256) ⌝ }
+    ensures is { λ r. ⌜ headed r (now (symbols .exit)) (now (rows .exit)) ≡ headOf (now (line .entry)) kind (from .purpose) (from .pos) (from .count) (now (symbols .entry)) (now (rows .entry)) ⌝ }
+    ensures on { λ r. ⌜ made r (λ h. (h .symbol < now (symbols .exit)) × (from .pos < h .end) × (h .end ≤ length (now (line .entry)))) ⌝ }
+    ensures counted { λ r. ⌜ (now (symbols .exit) ≤ length (now (rows .entry))) × (now (symbols .exit) ≤ 256) × (now (symbols .entry) ≤ now (symbols .exit)) ⌝ }
+{
+    let t = next(line, from.pos)?;
+    let name = symbol_name(t.token, t.place)?;
+    room_for_word(from.purpose, from.count, t.place)?;
+    let symbol = meet(rows, symbols, from.purpose, kind, name, t.place)?;
+    Ok(Head {
+        symbol,
+        place: t.place,
+        end: t.end,
+    })
+}
+
+/// The closing bracket fixes an open arity, or holds the symbol to its own.
+pub fn settle(rows: &mut [SymbolRow], s: usize, given: u32, place: usize) -> Result<(), Fault>
+    requires { ⌜ (s < length (now rows)) × (given ≤ 4) ⌝ }
+    ensures is { λ r. ⌜ settled r (now (rows .exit)) ≡ settleOf (now (rows .entry)) s given place ⌝ }
+    ensures kept { λ r. ⌜ refused r (λ _. now (rows .exit) ≡ now (rows .entry)) ⌝ }
+{
+    if rows[s].arity as usize > ARGUMENTS {
+        rows[s].arity = given as u8;
+        return Ok(());
+    }
+    if rows[s].arity as u32 != given {
+        return Err(Fault::OtherArity(place));
+    }
+    Ok(())
 }

@@ -1,7 +1,7 @@
--- The number and the place of every refusal of a text.
+-- The number and the place of every refusal of a line.
 use Prim.Native.Nat.{ℕ}
 use Rattle.tokens.specs.declared.fault.Fault.{Fault}
-use Rattle.tokens.specs.declared.fault.Fault.the-variants.{NoToken, Early, Due, Long, Form, Deep, ManyLiterals, ManyNumbers, ManyBindings, ManyWords, OtherKind, OtherArity, Unknown, ManyArguments, ManySymbols, NoRule}
+use Rattle.tokens.specs.declared.fault.Fault.the-variants.{NoToken, Early, Due, Long, Form, Deep, ManyLiterals, ManyNumbers, ManyBindings, ManyWords, OtherKind, OtherArity, Unknown, ManyArguments, ManySymbols, NoRule, Count}
 
 abbrev pub fault-number : Fault → ℕ
 fault-number (NoToken p) = 1
@@ -20,6 +20,7 @@ fault-number (Unknown p) = 8
 fault-number (ManyArguments p) = 9
 fault-number (ManySymbols p) = 9
 fault-number (NoRule p) = 11
+fault-number Count = 42
 
 abbrev pub fault-place : Fault → ℕ
 fault-place (NoToken p) = p
@@ -38,3 +39,4 @@ fault-place (Unknown p) = p
 fault-place (ManyArguments p) = p
 fault-place (ManySymbols p) = p
 fault-place (NoRule p) = p
+fault-place Count = 0

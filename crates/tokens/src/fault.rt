@@ -1,8 +1,8 @@
-//! Why a text is refused.
+//! Why a line is refused.
 ghost use mathlib.Core.Path.{_≡_};
 ghost use Rattle.tokens.specs.Faults.{fault-number, fault-place};
 
-/// A refusal, with its place in the line.
+/// A refusal, with its place in the line; that of a count lies at 0.
 #[derive(Clone, Copy)]
 pub enum Fault {
     /// A byte that no token has.
@@ -37,6 +37,8 @@ pub enum Fault {
     ManySymbols(usize),
     /// No inference rule has the keyword.
     NoRule(usize),
+    /// The count of symbols exceeds their store.
+    Count,
 }
 
 impl Fault {
@@ -56,6 +58,7 @@ impl Fault {
             Fault::OtherKind(_) | Fault::OtherArity(_) | Fault::Unknown(_) => 8,
             Fault::ManyArguments(_) | Fault::ManySymbols(_) => 9,
             Fault::NoRule(_) => 11,
+            Fault::Count => 42,
         }
     }
 
@@ -80,6 +83,7 @@ impl Fault {
             Fault::ManyArguments(place) => place,
             Fault::ManySymbols(place) => place,
             Fault::NoRule(place) => place,
+            Fault::Count => 0,
         }
     }
 }

@@ -14,15 +14,11 @@ use crate::byte::Class;
 use crate::byte::is;
 use crate::fault::Fault;
 use crate::token::Token;
+use logic::NAME_BYTES;
+use logic::VARIABLES;
 
 /// The largest number that a line may have.
 pub const LARGEST_NUMBER: u32 = 999_999;
-
-/// The most bytes that a run may have.
-const RUN_BYTES: usize = 16;
-
-/// How many variables there are.
-const VARIABLES: u32 = 64;
 
 /// What at most 16 digits stand for, if all are digits and there are some.
 fn digits(run: &[u8]) -> Option<u64>
@@ -69,7 +65,7 @@ fn in_form(run: &[u8], digits: &[u8], most: u32, place: usize) -> Result<u32, Fa
     requires { ⌜ length (now digits) ≤ length (now run) ⌝ }
     ensures { λ r. ⌜ r ≡ in-form (now (run .entry)) (now (digits .entry)) most place ⌝ }
 {
-    if run.len() > RUN_BYTES {
+    if run.len() > NAME_BYTES {
         return Err(Fault::Long(place));
     }
     match decimal(digits, most) {
@@ -127,7 +123,7 @@ fn lettered(run: &[u8]) -> bool
 fn name_in_form(run: &[u8], place: usize) -> Result<&[u8], Fault>
     ensures { λ r. ⌜ behind r ≡ name-in-form (now (run .entry)) place ⌝ }
 {
-    if run.len() > RUN_BYTES {
+    if run.len() > NAME_BYTES {
         return Err(Fault::Long(place));
     }
     if lettered(run) {

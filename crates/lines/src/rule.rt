@@ -1,0 +1,44 @@
+//! Rule lines.
+ghost use mathlib.Core.Path.{_≡_};
+ghost use Rattle.lines.specs.Rules.{after-rule, rule-line};
+use crate::number::check_end;
+use crate::number::read_step_number;
+use logic::SymbolRow;
+use reading::Purpose;
+use reading::check_count;
+use reading::close;
+use reading::open;
+use reading::read_clause;
+use reading::word;
+use tokens::Fault;
+
+/// A rule line: the place of its opening bracket, its step number and how many words its clause has.
+#[derive(Clone, Copy)]
+pub struct RuleLine {
+    pub place: usize,
+    pub number: u32,
+    pub words: usize,
+}
+
+/// Reads `(rule N clause)`: the clause's words go to `out`, new names become symbols.
+pub fn read_rule(
+    line: &[u8],
+    rows: &mut [SymbolRow],
+    symbols: &mut usize,
+    out: &mut [u32],
+) -> Result<RuleLine, Fault>
+    ensures { λ r. ⌜ after-rule r (now (out .exit)) (now (symbols .exit)) (now (rows .exit)) ≡ rule-line (now (line .entry)) (now (out .entry)) (now (symbols .entry)) (now (rows .entry)) ⌝ }
+{
+    check_count(rows, *symbols)?;
+    let inner = open(line, 0)?;
+    let named = word(line, inner, b"rule")?;
+    let step = read_step_number(line, named)?;
+    let clause = read_clause(line, rows, symbols, out, Purpose::Rule, step.end)?;
+    let end = close(line, clause.pos)?;
+    check_end(line, end)?;
+    Ok(RuleLine {
+        place: inner - 1,
+        number: step.number,
+        words: clause.count,
+    })
+}
