@@ -1,0 +1,11 @@
+pub mod Answers
+pub mod Tables
+pub mod Streams
+pub mod Heads
+pub mod Appearing
+pub mod Naming
+pub mod TermsGrow
+pub mod TermsRead
+pub mod Marks
+pub mod ClausesRead
+pub mod RulesRead

@@ -1,0 +1,4 @@
+pub mod Spacing
+pub mod Grammar
+pub mod Appearance
+pub mod Spelling

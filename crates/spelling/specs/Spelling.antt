@@ -1,0 +1,2 @@
+-- placeholder
+use Prim.Native.Nat.{ℕ}
