@@ -1,2 +1,4 @@
 pub mod Firsts
 pub mod Spelt
+pub mod Passed
+pub mod Spanned
