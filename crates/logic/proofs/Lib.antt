@@ -2,3 +2,6 @@ pub mod Firsts
 pub mod Spelt
 pub mod Passed
 pub mod Spanned
+pub mod Walked
+pub mod Steps
+pub mod Begun

@@ -112,7 +112,7 @@ module _ (arity : ℕ → ℕ) where
   past-cons w ws = let z : word-arity arity w + 0 ≡ word-arity arity w = omega arith in ap (λ k. past arity k ws) z
 
   -- one literal passed is one literal fewer to come
-  pub heads-more : (ws : List ℕ) (place : ℕ) → place < length ws
+  heads-more : (ws : List ℕ) (place : ℕ) → place < length ws
       → heads arity 0 (drop place ws) ≡ suc (heads arity 0 (drop (place + passed arity 1 (drop place ws)) ws))
   heads-more ws place h =
       let e : drop place ws ≡ getD ws place 0 ∷ drop (place + 1) ws = drop-more ws place 0 h in
@@ -120,6 +120,10 @@ module _ (arity : ℕ → ℕ) where
       ∙ heads-cons (getD ws place 0) (drop (place + 1) ws)
       ∙ ap (λ xs. suc (heads arity 0 xs))
       (sym (past-cons (getD ws place 0) (drop (place + 1) ws)) ∙ ap (past arity 1) (sym e) ∙ drop-drop (passed arity 1 (drop place ws)) place ws)
+
+  pub heads-on : (ws : List ℕ) (place r : ℕ) → place < length ws → r ≡ place + passed arity 1 (drop place ws)
+      → heads arity 0 (drop place ws) ≡ suc (heads arity 0 (drop r ws))
+  heads-on ws place r h e = heads-more ws place h ∙ ap (λ p. suc (heads arity 0 (drop p ws))) (sym e)
 
   pub heads-none : (ws : List ℕ) (place : ℕ) → length ws ≤ place → heads arity 0 (drop place ws) ≡ 0
   unfolding heads
