@@ -1,13 +1,13 @@
 -- One literal of a clause's words.
 use mathlib.Core.Path.{_≡_, refl, sym, _∙_, ap, subst}
-use mathlib.Core.List.{List, [], _∷_, _++_, append-assoc, append-nil}
-use mathlib.Core.Logic.{_⊎_, inl, inr}
+use mathlib.Core.List.{List, [], _∷_, _++_, append-nil}
+use mathlib.Core.Logic.{inl, inr}
 use mathlib.Core.Bool.{Bool, true, false, cond}
-use Prim.Native.Nat.{ℕ, zero, suc, _+_, _-_, _<_, _≤_}
+use Prim.Native.Nat.{ℕ, _+_, _-_, _<_, _≤_}
 use native.Mathlib.Numerals.{add-one}
 use native.Mathlib.Omega.{arith}
 use lib.Dec.{ltb}
-use lib.ListN.{length, getD, drop, length-append, drop-of-length-le}
+use lib.ListN.{length, getD, drop, drop-of-length-le}
 use lib.Seq.{drop-cons}
 use Rattle.std.specs.declared.option.Option.{Option}
 use Rattle.std.specs.declared.option.Option.the-variants.{Some, None}
@@ -16,11 +16,11 @@ use Rattle.std.proofs.shelf.Tests.{lt-ltb, le-ltb, cond-true, cond-false, cases
 use Rattle.logic.specs.declared.row.SymbolRow.{SymbolRow}
 use Rattle.logic.specs.declared.row.Kind.the-variants.{Predicate}
 use Rattle.logic.specs.Symbols.{Symbol}
-use Rattle.logic.specs.Syntax.{Term, Terms, Atom, Literal, Clause, var, app, []ₜ, _∷ₜ_, predicate, equal}
+use Rattle.logic.specs.Syntax.{Terms, Atom, Clause, []ₜ, _∷ₜ_, predicate, equal}
 use Rattle.logic.specs.Words.{term-words, terms-words, literal-words, clause-words}
-use Rattle.logic.specs.Lawful.{count, deep, deeps, Lawful-term, Lawful-terms, Lawful-atom}
+use Rattle.logic.specs.Lawful.{count, deeps, Lawful-term, Lawful-terms, Lawful-atom}
 use Rattle.logic.specs.Walks.{bare}
-use Rattle.logic.specs.Reads.{Arity, Reads, Ends, Takes, Taken, Spells}
+use Rattle.logic.specs.Reads.{Arity, Reads, Takes, Taken, Spells}
 use Rattle.logic.proofs.Spelt.{All-lawful}
 use Rattle.logic.proofs.Steps.{unique, one-arity}
 

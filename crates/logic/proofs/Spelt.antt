@@ -1,20 +1,19 @@
 -- Reading the words of a lawful clause gives back the clause.
 use mathlib.Core.Path.{_≡_, refl, sym, _∙_, ap, ap₂, subst}
 use mathlib.Core.List.{List, [], _∷_, _++_, append-assoc, append-nil, append-cancel-left}
-use mathlib.Core.Bool.{Bool, true, false, cond, not, _&&_}
-use Prim.Native.Nat.{ℕ, zero, suc, _+_, _-_, _<_, _≤_}
+use mathlib.Core.Bool.{Bool, true, false, cond, _&&_}
+use Prim.Native.Nat.{ℕ, zero, suc, _+_, _-_, _<_}
 use native.Mathlib.Nat.{zero-add}
 use native.Mathlib.Omega.{arith}
 use lib.Dec.{ltb, eqb}
 use Rattle.std.specs.shelf.Lists.{All}
 use Rattle.std.proofs.shelf.Tests.{lt-ltb, le-ltb, ne-eqb}
 use Rattle.logic.specs.declared.row.SymbolRow.{SymbolRow}
-use Rattle.logic.specs.declared.row.Kind.{Kind}
 use Rattle.logic.specs.declared.row.Kind.the-variants.{Function, Predicate}
 use Rattle.logic.specs.Symbols.{Symbol, row-at, same-kind}
 use Rattle.logic.specs.Syntax.{Term, Terms, Atom, Literal, Clause, var, app, []ₜ, _∷ₜ_, predicate, equal}
-use Rattle.logic.specs.Words.{term-words, terms-words, atom-words, literal-words, clause-words}
-use Rattle.logic.specs.Lawful.{count, Lawful-term, Lawful-terms, Lawful-atom, Lawful}
+use Rattle.logic.specs.Words.{term-words, terms-words, literal-words, clause-words}
+use Rattle.logic.specs.Lawful.{count, Lawful-term, Lawful-terms, Lawful-atom}
 use Rattle.logic.specs.Walks.{arities}
 
 infixr 67 _++ₜ_

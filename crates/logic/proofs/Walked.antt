@@ -1,8 +1,8 @@
 -- What a walk over words comes to, where the words are those of terms or of a clause.
 use mathlib.Core.Path.{_≡_, refl, sym, _∙_, ap, ap₂, subst}
-use mathlib.Core.Logic.{_⊎_, inl, inr}
-use mathlib.Core.List.{List, [], _∷_, _++_}
-use mathlib.Core.Bool.{Bool, true, false, cond}
+use mathlib.Core.Logic.{inl, inr}
+use mathlib.Core.List.{List, _++_}
+use mathlib.Core.Bool.{Bool}
 use Prim.Native.Nat.{ℕ, zero, suc, _+_, _-_, _<_, _≤_}
 use native.Mathlib.Nat.{zero-add, not-suc-le-zero}
 use native.Mathlib.Numerals.{add-one}
@@ -15,11 +15,11 @@ use Rattle.std.specs.Orderings.{Decides}
 use Rattle.std.proofs.shelf.Tests.{lt-ltb, le-ltb, cond-true, cond-false, cases-lt}
 use Rattle.logic.specs.declared.row.SymbolRow.{SymbolRow}
 use Rattle.logic.specs.declared.words.Span.{Span}
-use Rattle.logic.specs.Syntax.{Terms, Literal, Clause}
+use Rattle.logic.specs.Syntax.{Terms, Clause}
 use Rattle.logic.specs.Words.{terms-words, literal-words, clause-words}
 use Rattle.logic.specs.Lawful.{count, Lawful-terms, Lawful}
-use Rattle.logic.specs.Walks.{arities, passed, past, heads, begins}
-use Rattle.logic.specs.Literals.{no-literal, literal, span-of, Lies, Literal-at}
+use Rattle.logic.specs.Walks.{arities, passed, heads, begins}
+use Rattle.logic.specs.Literals.{no-literal, span-of, Lies, Literal-at}
 use Rattle.logic.proofs.Passed.{passed-zero, passed-more, passed-plus}
 use Rattle.logic.proofs.Spelt.{All-lawful, words-injective}
 use Rattle.logic.proofs.Spanned.{passed-terms, passed-literals, passed-clause, heads-clause, begins-within, begins-end, begins-next, words-around}

@@ -1,5 +1,5 @@
 //! Whether words are those of some lawful clause.
-ghost use Prim.Native.Nat.{ℕ, _≤_};
+ghost use Prim.Native.Nat.{_≤_};
 ghost use mathlib.Core.Path.{_≡_};
 ghost use lib.ListN.{length, drop};
 ghost use Rattle.std.specs.Orderings.{Decides};

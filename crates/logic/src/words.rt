@@ -60,11 +60,12 @@ pub fn literal_span(words: &[u32], rows: &[SymbolRow], a: usize) -> Option<Span>
         return None;
     }
     let start = terms_end(words, rows, 0, a - 1);
-    if start >= words.len() {
-        return None;
+    if start < words.len() {
+        let end = terms_end(words, rows, start, 1);
+        Some(Span { start, end })
+    } else {
+        None
     }
-    let end = terms_end(words, rows, start, 1);
-    Some(Span { start, end })
 }
 
 /// Whether two rows of words are the same; where they are those of clauses, whether the clauses are.
