@@ -3,5 +3,5 @@ pub mod Spelt
 pub mod Passed
 pub mod Spanned
 pub mod Walked
-pub mod Steps
-pub mod Begun
+pub mod TermSteps
+pub mod LiteralSteps

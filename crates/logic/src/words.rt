@@ -1,8 +1,9 @@
 //! Walking over words by counting how many terms are still due.
 ghost use mathlib.Core.Path.{_≡_};
 ghost use mathlib.Core.List.{List, _++_};
-ghost use Prim.Native.Nat.{ℕ, _+_, _≤_};
+ghost use Prim.Native.Nat.{ℕ, _+_, _<_, _≤_};
 ghost use lib.ListN.{length, drop};
+ghost use Rattle.std.specs.Options.{Cases};
 ghost use Rattle.std.specs.Orderings.{Decides};
 ghost use Rattle.logic.specs.declared.row.SymbolRow.{SymbolRow as Row};
 ghost use Rattle.logic.specs.Syntax.{Terms, Clause};
@@ -54,6 +55,7 @@ pub fn literal_count(words: &[u32], rows: &[SymbolRow]) -> usize
 /// Where literal a, counted from 1, lies in the words, if there are so many.
 pub fn literal_span(words: &[u32], rows: &[SymbolRow], a: usize) -> Option<Span>
     ensures is { λ r. ⌜ r ≡ span-of (arities (now (rows .entry))) (now (words .entry)) a ⌝ }
+    ensures within { λ r. ⌜ Cases r (Unit {0}) (λ s. (s .start < s .end) × (s .end ≤ length (now (words .entry)))) ⌝ }
     ensures literal { λ r. ⌜ ((c : Clause) → Lawful (now (rows .entry)) c → now (words .entry) ≡ clause-words c → Literal-at c a r) ⌝ }
 {
     if a == 0 {

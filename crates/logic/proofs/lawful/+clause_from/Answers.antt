@@ -1,5 +1,5 @@
 use native.Mathlib.Omega.{arith}
-use Rattle.logic.proofs.Begun.{spells-none, spells-full, spells-headless, spells-broken, spells-more}
+use Rattle.logic.proofs.LiteralSteps.{spells-none, spells-full, spells-headless, spells-broken, spells-more}
 use Rattle.logic.proofs.lawful.+clause_from.Needs as need
 
 pub returns-then-i-words : need.returns-then-i-words

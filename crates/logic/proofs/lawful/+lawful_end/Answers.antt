@@ -1,6 +1,6 @@
 use native.Mathlib.Omega.{arith}
 use lib.ListN.{drop}
-use Rattle.logic.proofs.Steps.{none, ends-var, ends-between, ends-unknown, ends-inner, ends-symbol, at-end, too-deep}
+use Rattle.logic.proofs.TermSteps.{none, ends-var, ends-between, ends-unknown, ends-inner, ends-symbol, at-end, too-deep}
 use Rattle.logic.proofs.lawful.+lawful_end.Needs as need
 
 pub returns-then-n-eq0 : need.returns-then-n-eq0

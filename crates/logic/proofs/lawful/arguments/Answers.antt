@@ -3,7 +3,7 @@ use Rattle.logic.specs.declared.row.Kind.the-variants.{Predicate}
 use Prim.Native.Nat.{ℕ, _-_}
 use native.Mathlib.Omega.{arith}
 use Rattle.logic.specs.Reads.{Arity}
-use Rattle.logic.proofs.Begun.{taken-symbol}
+use Rattle.logic.proofs.LiteralSteps.{taken-symbol}
 use Rattle.logic.proofs.lawful.arguments.Needs as need
 
 pub returns : need.returns

@@ -20,11 +20,12 @@ use Rattle.logic.specs.Reads.{Reads, Ends}
 use Rattle.logic.proofs.Spelt.{terms-prefix-unique}
 
 module _ (rows : List SymbolRow) where
-  -- ── Nothing due, or nothing left ──
-
+  -- words begin with one row of so many terms at most
   pub unique : (d n : ℕ) (ws xs ys : List ℕ) → Reads rows d n ws xs → Reads rows d n ws ys → xs ≡ ys
   unique d n ws xs ys r s =
       terms-prefix-unique rows (r .terms) (s .terms) xs ys (r .lawful) (s .lawful) (r .counted ∙ sym (s .counted)) (sym (r .spelt) ∙ s .spelt) .1
+
+  -- ── Nothing due, or nothing left ──
 
   pub none : (d n : ℕ) (ws : List ℕ) → n ≡ 0 → Reads rows d n ws ws
   none d n ws e = record { terms = []ₜ; counted = sym e; lawful = tt; shallow = omega arith; spelt = refl }

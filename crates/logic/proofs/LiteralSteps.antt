@@ -22,7 +22,7 @@ use Rattle.logic.specs.Lawful.{count, deeps, Lawful-term, Lawful-terms, Lawful
 use Rattle.logic.specs.Walks.{bare}
 use Rattle.logic.specs.Reads.{Arity, Reads, Takes, Taken, Spells}
 use Rattle.logic.proofs.Spelt.{All-lawful}
-use Rattle.logic.proofs.Steps.{unique, one-arity}
+use Rattle.logic.proofs.TermSteps.{unique, one-arity}
 
 -- ── The sign of a head ──
 
