@@ -1,20 +1,20 @@
 -- Reading the words of a lawful clause gives back the clause.
 use mathlib.Core.Path.{_≡_, refl, sym, _∙_, ap, ap₂, subst}
 use mathlib.Core.List.{List, [], _∷_, _++_, append-assoc, append-nil, append-cancel-left}
-use mathlib.Core.Bool.{Bool, true, false, cond, not, _&&_}
-use Prim.Native.Nat.{ℕ, zero, suc, _+_, _-_, _<_, _≤_}
+use mathlib.Core.Bool.{Bool, true, false, cond, _&&_}
+use Prim.Native.Nat.{ℕ, zero, suc, _+_, _-_, _<_}
 use native.Mathlib.Nat.{zero-add}
 use native.Mathlib.Omega.{arith}
 use lib.Dec.{ltb, eqb}
+use lib.ListN.{getD}
 use Rattle.std.specs.shelf.Lists.{All}
 use Rattle.std.proofs.shelf.Tests.{lt-ltb, le-ltb, ne-eqb}
 use Rattle.logic.specs.declared.row.SymbolRow.{SymbolRow}
-use Rattle.logic.specs.declared.row.Kind.{Kind}
 use Rattle.logic.specs.declared.row.Kind.the-variants.{Function, Predicate}
 use Rattle.logic.specs.Symbols.{Symbol, row-at, same-kind}
 use Rattle.logic.specs.Syntax.{Term, Terms, Atom, Literal, Clause, var, app, []ₜ, _∷ₜ_, predicate, equal}
-use Rattle.logic.specs.Words.{term-words, terms-words, atom-words, literal-words, clause-words}
-use Rattle.logic.specs.Lawful.{count, Lawful-term, Lawful-terms, Lawful-atom, Lawful}
+use Rattle.logic.specs.Words.{term-words, terms-words, literal-words, clause-words}
+use Rattle.logic.specs.Lawful.{count, Lawful-term, Lawful-terms, Lawful-atom}
 use Rattle.logic.specs.Walks.{arities}
 
 infixr 67 _++ₜ_
@@ -220,3 +220,15 @@ module _ (rows : List SymbolRow) where
       let same : ts ≡ us =
       sym (first-append ts (read-words xs .waiting)) ∙ ap₂ first-terms n w ∙ first-append us (read-words ys .waiting) in
       (same, append-cancel-left (terms-words us) xs ys (subst (λ (t : Terms). terms-words t ++ xs ≡ terms-words us ++ ys) same e))
+
+  -- and with one literal
+  pub literal-prefix-unique : (l m : Literal) (xs ys : List ℕ) → Lawful-atom rows (l .atom) → Lawful-atom rows (m .atom)
+      → literal-words l ++ xs ≡ literal-words m ++ ys → (l ≡ m) × (xs ≡ ys)
+  literal-prefix-unique l m xs ys g h e =
+      let same : l ≡ m =
+      ap (λ (r : Reading). getD (r .literals) 0 l)
+      (sym (read-atom (l .negated) (l .atom) xs g) ∙ ap read-words e ∙ read-atom (m .negated) (m .atom) ys h) in
+      (same, append-cancel-left (literal-words m) xs ys (subst (λ (x : Literal). literal-words x ++ xs ≡ literal-words m ++ ys) same e))
+
+  pub literal-words-injective : (l m : Literal) → Lawful-atom rows (l .atom) → Lawful-atom rows (m .atom) → literal-words l ≡ literal-words m → l ≡ m
+  literal-words-injective l m g h e = literal-prefix-unique l m [] [] g h (ap (λ ws. ws ++ []) e) .0

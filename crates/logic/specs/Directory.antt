@@ -1,5 +1,4 @@
 -- The first row that has a key.
-use mathlib.Core.Path.{_≡_}
 use mathlib.Core.List.{List, [], _∷_}
 use mathlib.Core.Bool.{Bool, cond}
 use Prim.Native.Nat.{ℕ, suc, _<_}
@@ -18,7 +17,7 @@ unfoldable pub first-that : {A : Type 0} → (A → Bool) → List A → Option 
 first-that p [] = None
 first-that p (x ∷ xs) = cond (p x) (Some 0) (mapped suc (first-that p xs))
 
--- no row is of the kind sought, or r is the place of the first that is
+-- r is the first place of a row that is sought, or none where no row is
 abbrev pub First-place : {A : Type 0} → (A → Type 0) → List A → Option ℕ → Type 0
 First-place {A} Sought rows r =
     Cases r ((k : ℕ) (d : A) → k < length rows → Sought (getD rows k d) → ⊥)
@@ -32,8 +31,10 @@ has-number e n = eqb (e .number) n
 abbrev pub has-name : SymbolRow → List ℕ → Bool
 has-name row name = sameBytes (name-of row) name
 
+-- the place of the first entry with this step number
 abbrev pub place-of-number : List Entry → ℕ → Option ℕ
 place-of-number entries n = first-that (λ e. has-number e n) entries
 
+-- the place of the first row with this name
 abbrev pub place-of-name : List SymbolRow → List ℕ → Option ℕ
 place-of-name rows name = first-that (λ row. has-name row name) rows

@@ -7,4 +7,6 @@ pub mod Symbols
 pub mod Lawful
 pub mod Directory
 pub mod Walks
+pub mod Literals
+pub mod Reads
 pub mod Injective

@@ -1,18 +1,13 @@
 -- Passing over terms and literals of words by counting, for any words and rows.
-use Prim.Native.Nat.{ℕ, zero, suc, _+_, _-_, _<_, _≤_}
-use mathlib.Core.Path.{_≡_}
-use mathlib.Core.Logic.{_⊎_}
-use mathlib.Core.List.{List, [], _∷_, _++_}
-use mathlib.Core.Bool.{false, cond}
+use Prim.Native.Nat.{ℕ, zero, suc, _+_, _-_}
+use mathlib.Core.List.{List, [], _∷_}
+use mathlib.Core.Bool.{cond}
 use lib.Dec.{ltb, eqb}
-use lib.ListN.{length, getD, take, drop}
-use Rattle.std.specs.declared.option.Option.{Option}
-use Rattle.std.specs.declared.option.Option.the-variants.{Some, None}
-use Rattle.std.specs.Options.{Cases}
+use lib.ListN.{length, take, drop}
 use Rattle.logic.specs.declared.row.SymbolRow.{SymbolRow}
 use Rattle.logic.specs.Symbols.{row-at}
-use Rattle.logic.specs.Syntax.{Literal, Clause, var, equal}
-use Rattle.logic.specs.Words.{symbol-word, equality-word, negation, literal-words, clause-words}
+use Rattle.logic.specs.Syntax.{Clause}
+use Rattle.logic.specs.Words.{symbol-word, equality-word, negation, clause-words}
 
 -- the arity that the rows give to each symbol, 0 where there is no row
 abbrev pub arities : List SymbolRow → ℕ → ℕ

@@ -13,6 +13,7 @@ pub struct Entry {
     pub length: u32,
 }
 
+/// An entry has its step number as a key.
 pub impl Keyed<u32> for Entry as EntryByNumber {
     ghost has = { has-number };
 

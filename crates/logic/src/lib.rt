@@ -1,11 +1,14 @@
 //! The language of clauses: symbols, words, and which words are those of a clause.
 mod directory;
 mod entry;
+mod head;
 mod injective;
+mod lawful;
 mod limits;
 mod names;
 mod row;
 mod symbol;
+mod words;
 
 pub use directory::Keyed;
 pub use directory::find;
@@ -13,6 +16,7 @@ pub use entry::Entry;
 pub use entry::EntryByNumber;
 pub use entry::entry_numbered;
 pub use injective::words_determine_the_clause;
+pub use lawful::is_clause;
 pub use limits::ARGUMENTS;
 pub use limits::DEPTH;
 pub use limits::EQUALITY_WORD;
@@ -28,3 +32,8 @@ pub use row::Kind;
 pub use row::SymbolRow;
 pub use symbol::Symbol;
 pub use symbol::record;
+pub use words::Span;
+pub use words::literal_count;
+pub use words::literal_span;
+pub use words::same;
+pub use words::terms_end;

@@ -1,6 +1,5 @@
 //! Rows of the symbol store, found by their names.
 ghost use mathlib.Core.Path.{_≡_};
-ghost use Prim.Native.Nat.{ℕ};
 ghost use denote.Ref.{now};
 ghost use lib.ListN.{take};
 ghost use Rattle.logic.specs.Directory.{First-place, has-name, place-of-name};
@@ -16,6 +15,7 @@ fn front(bytes: &[u8], n: usize) -> &[u8]
     if n < bytes.len() { &bytes[0..n] } else { bytes }
 }
 
+/// A row has the bytes of its name as a key.
 pub impl<'a> Keyed<&'a [u8]> for SymbolRow as RowByName {
     ghost has = { λ row name. has-name row (now name) };
 

@@ -1,8 +1,7 @@
 //! Symbols whose name and arity are known to be lawful.
 ghost use mathlib.Core.Path.{_≡_};
-ghost use mathlib.Core.Bool.{true, false};
-ghost use Prim.Native.Nat.{ℕ, _<_, _≤_};
-ghost use lib.ListN.{getD, take};
+ghost use Prim.Native.Nat.{_<_, _≤_};
+ghost use lib.ListN.{take};
 ghost use Rattle.std.specs.Options.{Cases};
 ghost use Rattle.logic.specs.Limits as limits;
 ghost use Rattle.logic.specs.Names.{name-byte, Recordable};

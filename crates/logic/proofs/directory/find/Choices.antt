@@ -1,5 +1,3 @@
-use mathlib.Core.Path.{_≡_}
-use mathlib.Core.Bool.{false}
 use Rattle.logic.proofs.Firsts.{None-below}
 use Rattle.logic.proofs.directory.find.Given as given
 
