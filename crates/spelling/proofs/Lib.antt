@@ -9,3 +9,7 @@ pub mod TermsRead
 pub mod Marks
 pub mod ClausesRead
 pub mod RulesRead
+pub mod HeadsGo
+pub mod TermsGo
+pub mod ClausesGo
+pub mod Spacing
