@@ -1,0 +1,3 @@
+pub mod Cuts
+pub mod Verdicts
+pub mod Texts
