@@ -4,6 +4,9 @@ mod lines_of;
 mod session;
 mod text;
 
+ghost use mathlib.Core.Path.{_≡_};
+ghost use lib.Chars.{codes};
+ghost use Rattle.std.specs.shelf.Text.{sameBytes};
 use lines_of::line_at;
 use session::Session;
 use std::env;
@@ -13,6 +16,7 @@ use std::io;
 use std::io::BufWriter;
 use std::io::Read;
 use std::io::Write;
+use tokens::same;
 
 /// What the program is called with.
 const USAGE: &str = "usage: mirtsjol read [FILE]";
@@ -51,22 +55,23 @@ fn read_book(rt: &LibcRuntime, file: Option<String>) -> Result<(), AnyError> {
     answer_lines(rt, bytes.as_slice())
 }
 
-/// Whether the argument is the command `read`.
-fn is_read(command: Option<String>) -> bool {
-    match command {
-        Some(word) => word.as_str() == "read",
-        None => false,
-    }
+/// Whether the word is the command `read`.
+fn is_read(word: &str) -> bool
+    ensures { λ r. ⌜ r ≡ sameBytes (now (word .entry)) (codes "read") ⌝ }
+{
+    same(word.as_bytes(), b"read")
 }
 
 /// Runs the command that the arguments ask for.
 fn run(rt: &LibcRuntime) -> Result<(), AnyError> {
     let mut args = env::args(rt)?;
     let _program = args.next();
-    let command = args.next();
+    let asked = match args.next() {
+        Some(word) => is_read(word.as_str()),
+        None => false,
+    };
     let file = args.next();
-    let more = args.next();
-    if is_read(command) && more.is_none() {
+    if asked && args.next().is_none() {
         return rt.report(read_book(rt, file));
     }
     eprintln!(rt, "{USAGE}")?;
