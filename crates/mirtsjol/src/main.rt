@@ -64,7 +64,7 @@ fn is_read(word: &str) -> bool
 
 /// Runs the command that the arguments ask for.
 fn run(rt: &LibcRuntime) -> Result<(), AnyError> {
-    let mut args = env::args(rt)?;
+    let mut args = rt.report(env::args(rt))?;
     let _program = args.next();
     let asked = match args.next() {
         Some(word) => is_read(word.as_str()),

@@ -55,7 +55,7 @@ impl Session {
     /// Reads a line; the words that it answers stand first in the store.
     fn answer(&mut self, line: &[u8]) -> Answer
         ensures is { λ r. ⌜ after-answer r (vec-items (now (self .exit) .words)) (now (self .exit) .symbols) (vec-items (now (self .exit) .rows)) ≡ judged-in (now (self .entry)) (now (line .entry)) ⌝ }
-        ensures room { λ _. ⌜ vec-len (now (self .exit) .words) ≡ vec-len (now (self .entry) .words) ⌝ }
+        ensures room { λ _. ⌜ (vec-len (now (self .exit) .words) ≡ vec-len (now (self .entry) .words)) × (vec-len (now (self .exit) .rows) ≡ vec-len (now (self .entry) .rows)) ⌝ }
     {
         judge(line, &mut self.rows, &mut self.symbols, &mut self.words)
     }
@@ -65,7 +65,7 @@ impl Session {
         ensures text { λ r. ⌜ made r (λ _. string-bytes (now (text .exit)) ≡ string-bytes (now (text .entry)) ++ told (judged-in (now (self .entry)) (now (line .entry)) .verdict)) ⌝ }
         ensures symbols { λ _. ⌜ now (self .exit) .symbols ≡ judged-in (now (self .entry)) (now (line .entry)) .symbols ⌝ }
         ensures rows { λ _. ⌜ vec-items (now (self .exit) .rows) ≡ judged-in (now (self .entry)) (now (line .entry)) .rows ⌝ }
-        ensures room { λ _. ⌜ vec-len (now (self .exit) .words) ≡ vec-len (now (self .entry) .words) ⌝ }
+        ensures room { λ _. ⌜ (vec-len (now (self .exit) .words) ≡ vec-len (now (self .entry) .words)) × (vec-len (now (self .exit) .rows) ≡ vec-len (now (self .entry) .rows)) ⌝ }
     {
         let answer = self.answer(line);
         add_answer(text, answer, self.words.as_slice())
