@@ -1,0 +1,4 @@
+pub mod Cuts
+pub mod Verdicts
+pub mod Texts
+pub mod Sessions
