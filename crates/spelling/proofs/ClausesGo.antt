@@ -213,9 +213,9 @@ module _ (bs : List ℕ) (p : Purpose) (first : ℕ) (table : List SymbolRow) (f
           let st : State = written a (f .0 .end) (sign + 512) in
           let parts = appear-split (enters p) (a .symbols) (term-symbols s) (term-symbols t) m appear in
           let d : Done (term bs 32) st (term-words s) mid (parts .0) =
-              term-done 32 st s mid (parts .0)
-              (term-goes bs p first table final x st (parts .0) (written-on a (f .0 .end) (sign + 512) on) (parts .1)
-              (omega (arith, appear-more (enters p) (parts .0) (term-symbols t) m (parts .2))) (roomy-left p (a .count + 1) (term-words s) (term-words t) sides-room) (f .3)) in
+          term-done 32 st s mid (parts .0)
+          (term-goes bs p first table final x st (parts .0) (written-on a (f .0 .end) (sign + 512) on) (parts .1)
+          (omega (arith, appear-more (enters p) (parts .0) (term-symbols t) m (parts .2))) (roomy-left p (a .count + 1) (term-words s) (term-words t) sides-room) (f .3)) in
           equation-done sign a s t (f .0) us m (parts .0) (f .1) (f .2) mid d
           (term-done 32 (d .b) t (closes ∷ us) m
           (term-goes bs p first table final y (d .b) m (d .went .toward) (subst (λ (n : ℕ). Appear (enters p) n (term-symbols t) m) (sym (d .went .symbols)) (parts .2)) top
@@ -344,8 +344,8 @@ module _ (bs : List ℕ) (p : Purpose) (first : ℕ) (table : List SymbolRow) (f
       let o = opens-first (a .pos) y there in
       let parts = appear-split (enters p) (a .symbols) (atom-symbols (x .atom)) (clause-symbols c) m appear in
       let d : Done (literal bs) (moved a (o .0 .end)) (literal-words x) mid (parts .0) =
-          literal-done y a (parts .0) on (parts .1) (omega (arith, appear-more (enters p) (parts .0) (clause-symbols c) m (parts .2)))
-          (roomy-left p (a .count) (literal-words x) (clause-words c) roomy) (o .0) (o .1) (o .2) there in
+      literal-done y a (parts .0) on (parts .1) (omega (arith, appear-more (enters p) (parts .0) (clause-symbols c) m (parts .2)))
+      (roomy-left p (a .count) (literal-words x) (clause-words c) roomy) (o .0) (o .1) (o .2) there in
       list-more l a (o .0) (literal-words x) (clause-words c) us mid m (parts .0) (o .1) (o .2) d
       (literals-done z l (d .b) m us e (omega arith) (d .went .toward) (subst (λ (n : ℕ). Appear (enters p) n (clause-symbols c) m) (sym (d .went .symbols)) (parts .2)) top
       (roomy-right p (a .count) (d .b .count) (literal-words x) (clause-words c) (d .went .wrote .counted) roomy) (d .went .left))

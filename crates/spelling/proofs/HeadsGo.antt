@@ -37,7 +37,7 @@ pub numeral-goes : (run figures : List ℕ) (most n at : ℕ) → Numeral run fi
 numeral-goes run figures most n at m =
     cond-false (ltb limits.name-bytes (length run)) (Err (Long at)) _ (le-ltb limits.name-bytes (length run) (m .short))
     ∙ cond-true (decimal figures && leb (value figures) most) (Ok (value figures)) (Err (Form at))
-      (both-true (decimal figures) (leb (value figures) most) (m .plain) (le-leb (value figures) most (subst (λ (x : ℕ). x ≤ most) (sym (m .worth)) (m .small))))
+    (both-true (decimal figures) (leb (value figures) most) (m .plain) (le-leb (value figures) most (subst (λ (x : ℕ). x ≤ most) (sym (m .worth)) (m .small))))
     ∙ ap Ok (m .worth)
 
 pub name-goes : (r : List ℕ) (at : ℕ) → Symbol-name r → symbol-form (word r) at ≡ Ok r
@@ -81,7 +81,7 @@ module _ (first : ℕ) (table : List SymbolRow) (final : Final first table) wher
         goes =
             ap (known p k name at n rows) found
             ∙ cond-true (same-kind (row-at rows s .kind) k) (Ok (record { symbol = s; symbols = n; rows = rows })) (Err (halt (OtherKind at) n rows))
-              (ap (λ (x : Kind). same-kind x k) kind ∙ kind-same k);
+            (ap (λ (x : Kind). same-kind x k) kind ∙ kind-same k);
         fits = f;
         appear = rest;
         long = refl;
@@ -123,7 +123,7 @@ module _ (first : ℕ) (table : List SymbolRow) (final : Final first table) wher
             ap (known p k name at n rows) found
             ∙ cond-true (enters p) _ (Err (halt (Unknown at) n rows)) may
             ∙ cond-true (ltb n limits.symbols && ltb n (length rows)) (Ok (record { symbol = n; symbols = n + 1; rows = set rows n (new-row name k) })) (Err (halt (ManySymbols at) n rows))
-              (both-true (ltb n limits.symbols) (ltb n (length rows)) (lt-ltb n limits.symbols (omega (arith, in-table .0, final .few))) (lt-ltb n (length rows) (omega (arith, in-table .0))));
+            (both-true (ltb n limits.symbols) (ltb n (length rows)) (lt-ltb n limits.symbols (omega (arith, in-table .0, final .few))) (lt-ltb n (length rows) (omega (arith, in-table .0))));
         fits = fits-new n rows k name ge (in-table .0) (omega (arith, in-table .0)) f (in-table .1) (names .kind);
         appear = rest;
         long = length-set rows n (new-row name k);

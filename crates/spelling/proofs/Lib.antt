@@ -13,3 +13,6 @@ pub mod HeadsGo
 pub mod TermsGo
 pub mod ClausesGo
 pub mod Spacing
+pub mod LawfulSpelled
+pub mod RulesGo
+pub mod Exact

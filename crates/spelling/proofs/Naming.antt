@@ -30,9 +30,10 @@ named-in may n rows name k s m rows′ table short (old lt at is) f =
     (known-in name n rows table short f s at .1, same-kinded (row-at rows s) (row-at table s) (f .kept s lt) ∙ is)
 named-in may n rows name k s m rows′ table short (new allowed none lt few) f =
     let here : row-at (set rows n (new-row name k)) n ≡ new-row name k = set-here rows n (new-row name k) lt in
-    let g = f .kept n (omega arith) in
-    (next-in name n rows table short (fits-entered n rows table (new-row name k) f) none (omega (arith, f .enough)) (same-named (row-at (set rows n (new-row name k)) n) (row-at table n) g ∙ ap name-of here ∙ new-name name k),
-      same-kinded (row-at (set rows n (new-row name k)) n) (row-at table n) g ∙ ap (λ (r : SymbolRow). r .kind) here)
+    let g = f .kept n (omega arith) in (
+      next-in name n rows table short (fits-entered n rows table (new-row name k) f) none (omega (arith, f .enough)) (same-named (row-at (set rows n (new-row name k)) n) (row-at table n) g ∙ ap name-of here ∙ new-name name k),
+      same-kinded (row-at (set rows n (new-row name k)) n) (row-at table n) g ∙ ap (λ (r : SymbolRow). r .kind) here,
+    )
 
 -- the symbol has the arity that was settled
 pub arity-in : (l s given : ℕ) (rows rows′ table : List SymbolRow) → Settled-as s given rows rows′ → given ≤ 4 → s < l → Fits l rows′ table

@@ -141,6 +141,10 @@ pub record Rule-read (bs out : List ℕ) (n : ℕ) (rows : List SymbolRow) (l : 
   pub grows : Grows n rows (l .symbols) (l .rows)
   pub short : n ≤ length rows
   pub few : n ≤ 256
+  pub opened : Lexed
+  pub first : lex bs 0 ≡ Ok opened
+  pub is : opened .tok ≡ opens
+  pub placed : l .place ≡ opened .end - 1
 
 module _ (bs out : List ℕ) (n : ℕ) (rows : List SymbolRow) (settled : Settled n rows) (l : Ruled) where
   rule-by : (o w c : ℕ) (m : Numbered) (st : State) → (n ≤ length rows) × (n ≤ 256) → Token-read bs 0 opens o → Token-read bs o (word (codes "rule")) w
@@ -165,6 +169,10 @@ module _ (bs out : List ℕ) (n : ℕ) (rows : List SymbolRow) (settled : Settle
         grows = r .grows;
         short = short .0;
         few = short .1;
+        opened = opened .lexed;
+        first = opened .read;
+        is = opened .is;
+        placed = ap (λ x. x - 1) (opened .on);
       })
 
   pub rule-read : rule-line bs out n rows ≡ Ok l → Rule-read bs out n rows l

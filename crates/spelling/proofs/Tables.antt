@@ -90,16 +90,16 @@ grows-then n r m s l t f g =
       kept = λ k h. row-then (row-at r k) (row-at s k) (row-at t k) (f .kept k h) (g .kept k (omega (arith, f .more)));
       fresh = λ k h q.
           elim (cases-lt k m) [
-          | inl lt ↦ subst (λ (x : SymbolRow). x .arity ≤ 4) (sym (g .kept k lt .fixed (f .fresh k h lt))) (f .fresh k h lt)
-          | inr ge ↦ g .fresh k ge q
+            | inl lt ↦ subst (λ (x : SymbolRow). x .arity ≤ 4) (sym (g .kept k lt .fixed (f .fresh k h lt))) (f .fresh k h lt)
+            | inr ge ↦ g .fresh k ge q
           ];
       beyond = λ k h. g .beyond k h ∙ f .beyond k (omega (arith, g .more));
       within = λ h. g .within (f .within h);
       few = λ h. g .few (f .few h);
       plain = λ k h q.
           elim (cases-lt k m) [
-          | inl lt ↦ subst Plain-row (sym (g .kept k lt .fixed (f .fresh k h lt))) (f .plain k h lt)
-          | inr ge ↦ g .plain k ge q
+            | inl lt ↦ subst Plain-row (sym (g .kept k lt .fixed (f .fresh k h lt))) (f .plain k h lt)
+            | inr ge ↦ g .plain k ge q
           ];
     }
 
@@ -193,8 +193,8 @@ found-below name n rows s short e = omega (arith, within-table name (take n rows
 pub data Met-as (may : Bool) (n : ℕ) (rows : List SymbolRow) (name : List ℕ) (k : Kind) : ℕ → ℕ → List SymbolRow → Type 0 where
   old : {s : ℕ} → s < n → place-of-name (take n rows) name ≡ Some s → row-at rows s .kind ≡ k → Met-as may n rows name k s n rows
   new :
-    may ≡ true → place-of-name (take n rows) name ≡ None → n < length rows → n < 256
-    → Met-as may n rows name k n (n + 1) (set rows n (new-row name k))
+      may ≡ true → place-of-name (take n rows) name ≡ None → n < length rows → n < 256
+      → Met-as may n rows name k n (n + 1) (set rows n (new-row name k))
 
 -- the rows but one
 pub others-stay : (rows : List SymbolRow) (s : ℕ) (r : SymbolRow) (k : ℕ) → k ≢ s → row-at (set rows s r) k ≡ row-at rows k

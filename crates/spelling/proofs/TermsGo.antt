@@ -89,8 +89,8 @@ module _ (bs : List ℕ) (p : Purpose) (first : ℕ) (table : List SymbolRow) (f
     pub b : State
     pub went : Went a b (term-words t) us m
     pub goes :
-      (rest : State → Result (ℕ × State) Halt) (given : ℕ)
-      → (from a (slot bs (eqb room 0) (full (a .purpose) (a .count)) false (a .pos)) >>= turn (nest bs room) rest given a) ≡ rest b
+        (rest : State → Result (ℕ × State) Halt) (given : ℕ)
+        → (from a (slot bs (eqb room 0) (full (a .purpose) (a .count)) false (a .pos)) >>= turn (nest bs room) rest given a) ≡ rest b
 
   pub record Args-done (room l given : ℕ) (a : State) (ts : Terms) (us : List Tok) (m : ℕ) : Type 0 where
     pub b : State
@@ -121,9 +121,9 @@ module _ (bs : List ℕ) (p : Purpose) (first : ℕ) (table : List SymbolRow) (f
       by f =
           let l : Lexed = f .0 in
           let slotted : slot-at (eqb room 0) (full (a .purpose) (a .count)) false (l .place) (l .end) (variable r) ≡ Ok (Variable i (l .end)) =
-              ap (λ d. slot-at d (full (a .purpose) (a .count)) false (l .place) (l .end) (variable r)) (pos-some room some)
-              ∙ ap (λ d. slot-at false d false (l .place) (l .end) (variable r)) free
-              ∙ ap (λ z. z then λ j. Ok (Variable j (l .end))) (variable-goes r i (l .place) v) in
+          ap (λ d. slot-at d (full (a .purpose) (a .count)) false (l .place) (l .end) (variable r)) (pos-some room some)
+          ∙ ap (λ d. slot-at false d false (l .place) (l .end) (variable r)) free
+          ∙ ap (λ z. z then λ j. Ok (Variable j (l .end))) (variable-goes r i (l .place) v) in
           record {
             b = written a (l .end) i;
             went =
@@ -227,8 +227,8 @@ module _ (bs : List ℕ) (p : Purpose) (first : ℕ) (table : List SymbolRow) (f
     with-head : (l : Lexed) → lex bs (a .pos) ≡ Ok l → l .tok ≡ word r → Tokens bs (l .end) toks → Meets l → Body-done room base k a s ts us m
     with-head l e t rest w =
         let d : Args-done room 4 0 (behind-head l w) ts us m =
-            inner (behind-head l w) m (toward-head l w) (subst (λ x. Appear (enters x) (w .symbols) (terms-symbols ts) m) (on .purpose) (w .appear)) top
-            (roomy-right p (a .count) (a .count + 1) ((base + s) ∷ []) (terms-words ts) (omega arith) roomy) rest in
+        inner (behind-head l w) m (toward-head l w) (subst (λ x. Appear (enters x) (w .symbols) (terms-symbols ts) m) (on .purpose) (w .appear)) top
+        (roomy-right p (a .count) (a .count + 1) ((base + s) ∷ []) (terms-words ts) (omega arith) roomy) rest in
         finish l e t w d (settled l w d)
 
     by-head : First bs (a .pos) (word r ∷ toks) → Body-done room base k a s ts us m
@@ -250,7 +250,7 @@ module _ (bs : List ℕ) (p : Purpose) (first : ℕ) (table : List SymbolRow) (f
       → Body-done k 256 Function (moved a (l .end)) s ts us m → Term-done (suc k) a (app s ts) us m
   application-done k a s ts l us m e t d =
       let slotted : slot-at (eqb (suc k) 0) (full (a .purpose) (a .count)) false (l .place) (l .end) opens ≡ Ok (Opened (l .end)) =
-          ap (λ q. slot-at q (full (a .purpose) (a .count)) false (l .place) (l .end) opens) (suc-some k) in
+      ap (λ q. slot-at q (full (a .purpose) (a .count)) false (l .place) (l .end) opens) (suc-some k) in
       record {
         b = d .b;
         went =
@@ -296,7 +296,7 @@ module _ (bs : List ℕ) (p : Purpose) (first : ℕ) (table : List SymbolRow) (f
             goes =
                 args-suc bs (nest bs room) (eqb room 0) given a l
                 ∙ ap (λ z. z >>= turn (nest bs room) (args bs (nest bs room) (eqb room 0) l (given + 1)) given a)
-                  (slot-goes a (eqb room 0) (full (a .purpose) (a .count)) (eqb l 0) (f .0) closes (Closed (f .0 .end)) (f .1) (f .2) refl)
+                (slot-goes a (eqb room 0) (full (a .purpose) (a .count)) (eqb l 0) (f .0) closes (Closed (f .0 .end)) (f .1) (f .2) refl)
                 ∙ ap (λ n. Ok (n, moved a (f .0 .end))) (sym (add-zero given));
           }
 
@@ -343,8 +343,8 @@ module _ (bs : List ℕ) (p : Purpose) (first : ℕ) (table : List SymbolRow) (f
     terms-go {room} (more-terms {t = t} {args = qs} {us = ws} x y) (suc l) given a m us e few on appear top roomy there =
         let parts = appear-split (enters p) (a .symbols) (term-symbols t) (terms-symbols qs) m appear in
         let d : Term-done room a t ws (parts .0) =
-            term-goes x a (parts .0) on (parts .1) (omega (arith, appear-more (enters p) (parts .0) (terms-symbols qs) m (parts .2)))
-            (roomy-left p (a .count) (term-words t) (terms-words qs) roomy) there in
+        term-goes x a (parts .0) on (parts .1) (omega (arith, appear-more (enters p) (parts .0) (terms-symbols qs) m (parts .2)))
+        (roomy-left p (a .count) (term-words t) (terms-words qs) roomy) there in
         more-read room l given a t qs ws us m (parts .0) d
         (terms-go y l (given + 1) (d .b) m us e (omega arith) (d .went .toward)
         (subst (λ (n : ℕ). Appear (enters p) n (terms-symbols qs) m) (sym (d .went .symbols)) (parts .2)) top

@@ -168,14 +168,14 @@ module _ (bs : List ℕ) where
       let same : with-rows (g .0 .1) (f .0) ≡ b = ok-same (f .2) in
       let rows-are : f .0 ≡ b .rows = ap (λ (x : State). x .rows) same in
       let se : Settled-as (h .0 .symbol) (g .0 .0) (g .0 .1 .rows) (b .rows) =
-          subst (Settled-as (h .0 .symbol) (g .0 .0) (g .0 .1 .rows)) rows-are
-          (settle-is (g .0 .1 .rows) (h .0 .symbol) (g .0 .0) (h .0 .place) (f .0) (omega (arith, gr .0 .within (ms .0)))
-          (lift-ok (g .0 .1 .symbols) (g .0 .1 .rows) (settle (g .0 .1 .rows) (h .0 .symbol) (g .0 .0) (h .0 .place)) (f .0) (f .1))) in
+      subst (Settled-as (h .0 .symbol) (g .0 .0) (g .0 .1 .rows)) rows-are
+      (settle-is (g .0 .1 .rows) (h .0 .symbol) (g .0 .0) (h .0 .place) (f .0) (omega (arith, gr .0 .within (ms .0)))
+      (lift-ok (g .0 .1 .symbols) (g .0 .1 .rows) (settle (g .0 .1 .rows) (h .0 .symbol) (g .0 .0) (h .0 .place)) (f .0) (f .1))) in
       let few : g .0 .0 ≤ 4 = omega (arith, gr .1) in
       let b-is : b ≡ with-rows (g .0 .1) (b .rows) = sym same ∙ ap (with-rows (g .0 .1)) rows-are in
       let whole : Grows (a .symbols) (a .rows) (g .0 .1 .symbols) (b .rows) =
-          application-grows (enters (a .purpose)) (a .symbols) (a .rows) (hi .run) k (h .0 .symbol) (h .0 .symbols) (g .0 .1 .symbols) (h .0 .rows) (g .0 .1 .rows) (b .rows)
-          (hi .met) (gr .0) (se .long) (se .here) (omega (arith, se .arity)) (se .others) in
+      application-grows (enters (a .purpose)) (a .symbols) (a .rows) (hi .run) k (h .0 .symbol) (h .0 .symbols) (g .0 .1 .symbols) (h .0 .rows) (g .0 .1 .rows) (b .rows)
+      (hi .met) (gr .0) (se .long) (se .here) (omega (arith, se .arity)) (se .others) in
       record {
         head = h .0;
         head-is = hi;

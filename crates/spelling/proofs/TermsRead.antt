@@ -147,7 +147,7 @@ module _ (bs : List ℕ) where
       body-names n e table f =
           let g = fits-group table f in
           let h : Fits (s .head .symbols) (s .head .rows) table =
-              fits-before (s .head .symbols) (s .head .rows) (s .group .1 .symbols) (s .group .1 .rows) table (s .inner) g in
+          fits-before (s .head .symbols) (s .head .rows) (s .group .1 .symbols) (s .group .1 .rows) table (s .inner) g in
           let i = named-in (enters (a .purpose)) (a .symbols) (a .rows) (s .head-is .run) k (s .head .symbol) (s .head .symbols) (s .head .rows) table short (s .head-is .met) h in
           record {
             form = s .head-is .form;
@@ -196,9 +196,14 @@ module _ (bs : List ℕ) where
   unfolding nest
   nested-read zero a p b short q e us toks = absurd (true≢false q)
   nested-read (suc room) a p b short q e us toks =
-      let r : Body-read room 256 Function (moved a p) b us = body-read room (nested-read room) 256 Function (moved a p) b us short e toks in
-      (word (r .run) ∷ r .toks, app (r .symbol) (r .terms), λ table f. an-application (r .names table f) (r .inner table f), r .appear, r .there,
-        record { counted = r .wrote .counted; poured = r .wrote .poured; purpose = r .wrote .purpose })
+      let r : Body-read room 256 Function (moved a p) b us = body-read room (nested-read room) 256 Function (moved a p) b us short e toks in (
+        word (r .run) ∷ r .toks,
+        app (r .symbol) (r .terms),
+        λ table f. an-application (r .names table f) (r .inner table f),
+        r .appear,
+        r .there,
+        record { counted = r .wrote .counted; poured = r .wrote .poured; purpose = r .wrote .purpose },
+      )
 
   -- a term
   pub term-read : (room : ℕ) (a b : State) (us : List Tok) → Short a → term bs room a ≡ Ok b → Tokens bs (b .pos) us → Term-read room a b us

@@ -49,42 +49,42 @@ module _ (table : List SymbolRow) where
     pub data Spells-term : ℕ → Term → List Tok → List Tok → Type 0 where
       a-variable : {room i : ℕ} {r : List ℕ} {ts : List Tok} → 0 < room → Variable-run r i → Spells-term room (var i) (variable r ∷ ts) ts
       an-application :
-        {room s : ℕ} {args : Terms} {r : List ℕ} {ts us : List Tok} → Names table r s Function (count args)
-        → Spells-terms room args ts (closes ∷ us) → Spells-term (suc room) (app s args) (opens ∷ word r ∷ ts) us
+          {room s : ℕ} {args : Terms} {r : List ℕ} {ts us : List Tok} → Names table r s Function (count args)
+          → Spells-terms room args ts (closes ∷ us) → Spells-term (suc room) (app s args) (opens ∷ word r ∷ ts) us
 
     pub data Spells-terms : ℕ → Terms → List Tok → List Tok → Type 0 where
       no-terms : {room : ℕ} {ts : List Tok} → Spells-terms room []ₜ ts ts
       more-terms :
-        {room : ℕ} {t : Term} {args : Terms} {ts us vs : List Tok} → Spells-term room t ts us → Spells-terms room args us vs
-        → Spells-terms room (t ∷ₜ args) ts vs
+          {room : ℕ} {t : Term} {args : Terms} {ts us vs : List Tok} → Spells-term room t ts us → Spells-terms room args us vs
+          → Spells-terms room (t ∷ₜ args) ts vs
 
   -- an atom behind its opening bracket
   pub data Spells-atom : Atom → List Tok → List Tok → Type 0 where
     an-atom :
-      {p : ℕ} {args : Terms} {r : List ℕ} {ts us : List Tok} → Names table r p Predicate (count args)
-      → Spells-terms limits.depth args ts (closes ∷ us) → Spells-atom (predicate p args) (word r ∷ ts) us
+        {p : ℕ} {args : Terms} {r : List ℕ} {ts us : List Tok} → Names table r p Predicate (count args)
+        → Spells-terms limits.depth args ts (closes ∷ us) → Spells-atom (predicate p args) (word r ∷ ts) us
     an-equation :
-      {s t : Term} {ts us vs : List Tok} → Spells-term limits.depth s ts us → Spells-term limits.depth t us (closes ∷ vs)
-      → Spells-atom (equal s t) (equals ∷ ts) vs
+        {s t : Term} {ts us vs : List Tok} → Spells-term limits.depth s ts us → Spells-term limits.depth t us (closes ∷ vs)
+        → Spells-atom (equal s t) (equals ∷ ts) vs
 
   pub data Spells-literal : Literal → List Tok → List Tok → Type 0 where
     positive : {a : Atom} {ts us : List Tok} → Spells-atom a ts us → Spells-literal (record { negated = false; atom = a }) (opens ∷ ts) us
     negative :
-      {a : Atom} {ts us : List Tok} → Spells-atom a ts (closes ∷ us)
-      → Spells-literal (record { negated = true; atom = a }) (opens ∷ word (codes "not") ∷ opens ∷ ts) us
+        {a : Atom} {ts us : List Tok} → Spells-atom a ts (closes ∷ us)
+        → Spells-literal (record { negated = true; atom = a }) (opens ∷ word (codes "not") ∷ opens ∷ ts) us
 
   pub data Spells-literals : Clause → List Tok → List Tok → Type 0 where
     no-literals : {ts : List Tok} → Spells-literals [] ts ts
     more-literals :
-      {l : Literal} {c : Clause} {ts us vs : List Tok} → Spells-literal l ts us → Spells-literals c us vs → Spells-literals (l ∷ c) ts vs
+        {l : Literal} {c : Clause} {ts us vs : List Tok} → Spells-literal l ts us → Spells-literals c us vs → Spells-literals (l ∷ c) ts vs
 
   pub data Spells-clause : Clause → List Tok → List Tok → Type 0 where
     a-clause :
-      {c : Clause} {ts us : List Tok} → length c ≤ limits.literals → Spells-literals c ts (closes ∷ us)
-      → Spells-clause c (opens ∷ word (codes "or") ∷ ts) us
+        {c : Clause} {ts us : List Tok} → length c ≤ limits.literals → Spells-literals c ts (closes ∷ us)
+        → Spells-clause c (opens ∷ word (codes "or") ∷ ts) us
 
   -- a whole rule line
   pub data Spells-rule : ℕ → Clause → List Tok → Type 0 where
     a-rule :
-      {n : ℕ} {c : Clause} {r : List ℕ} {ts : List Tok} → Numeral r r largest-number n → 0 < n → Spells-clause c ts (closes ∷ [])
-      → Spells-rule n c (opens ∷ word (codes "rule") ∷ number r ∷ ts)
+        {n : ℕ} {c : Clause} {r : List ℕ} {ts : List Tok} → Numeral r r largest-number n → 0 < n → Spells-clause c ts (closes ∷ [])
+        → Spells-rule n c (opens ∷ word (codes "rule") ∷ number r ∷ ts)

@@ -22,5 +22,5 @@ pub data Spaced : List ℕ → List Tok → Type 0 where
   closing : {bs : List ℕ} {ts : List Tok} → Spaced bs ts → Spaced (41 ∷ bs) (closes ∷ ts)
   equality : {bs : List ℕ} {ts : List Tok} → Spaced bs ts → Spaced (61 ∷ bs) (equals ∷ ts)
   run :
-    {bs : List ℕ} {ts : List Tok} (r : List ℕ) → 0 < length r → All (λ b. name-byte b ≡ true) r → Run-ends bs → Spaced bs ts
-    → Spaced (r ++ bs) (class r ∷ ts)
+      {bs : List ℕ} {ts : List Tok} (r : List ℕ) → 0 < length r → All (λ b. name-byte b ≡ true) r → Run-ends bs → Spaced bs ts
+      → Spaced (r ++ bs) (class r ∷ ts)
