@@ -3,3 +3,4 @@ pub mod States
 pub mod Entering
 pub mod Terms
 pub mod Clauses
+pub mod Bindings
