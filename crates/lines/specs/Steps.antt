@@ -50,10 +50,9 @@ after-step (Ok l) j out n rows =
     })
 after-step (Err f) j out n rows = Err (halt f n rows)
 
--- what a line reads as, as a step line; `terms` and `out` are the stores for the words of bindings and of the clause
-unfoldable pub step-line : List ℕ → Table → List ℕ → List ℕ → ℕ → List SymbolRow → Result Stepped Halt
-step-line bs table terms out n rows =
-    lift n rows (count-checked n rows) >>= λ u.
+-- what the text of a step line reads as; `terms` and `out` are the stores for the words of bindings and of the clause
+unfoldable pub step-text : List ℕ → Table → List ℕ → List ℕ → ℕ → List SymbolRow → Result Stepped Halt
+step-text bs table terms out n rows =
     lift n rows (opening bs 0) >>= λ o.
     lift n rows (wording (codes "step") bs o) >>= λ w.
     lift n rows (step-number bs w) >>= λ m.
@@ -75,3 +74,7 @@ step-line bs table terms out n rows =
       symbols = st .symbols;
       rows = st .rows;
     })
+
+-- what a line reads as, as a step line; the count of symbols must not exceed their store
+abbrev pub step-line : List ℕ → Table → List ℕ → List ℕ → ℕ → List SymbolRow → Result Stepped Halt
+step-line bs table terms out n rows = lift n rows (count-checked n rows) >>= λ u. step-text bs table terms out n rows

@@ -1,6 +1,7 @@
 //! Step lines.
 ghost use mathlib.Core.Path.{_≡_};
-ghost use Rattle.lines.specs.Steps.{after-step, step-line};
+ghost use Rattle.reading.specs.Fixed.{Fixed};
+ghost use Rattle.lines.specs.Steps.{after-step, step-text, step-line};
 use crate::justification::Justification;
 use crate::justification::read_justification;
 use crate::number::check_end;
@@ -27,8 +28,8 @@ pub struct StepLine<'a> {
     pub words: usize,
 }
 
-/// Reads `(step N justification clause)`: the clause's words go to `out`, what stands behind the keyword to `justification`.
-pub fn read_step<'a, S: Shapes>(
+/// The text of a step line.
+fn read_text<'a, S: Shapes>(
     line: &'a [u8],
     bench: &S,
     rows: &mut [SymbolRow],
@@ -36,9 +37,8 @@ pub fn read_step<'a, S: Shapes>(
     out: &mut [u32],
     justification: &mut Justification,
 ) -> Result<StepLine<'a>, Fault>
-    ensures { λ r. ⌜ after-step r (now (justification .exit)) (now (out .exit)) (now (symbols .exit)) (now (rows .exit)) ≡ step-line (now (line .entry)) (shapes (now (bench .entry))) (now (justification .entry) .bindings .terms) (now (out .entry)) (now (symbols .entry)) (now (rows .entry)) ⌝ }
+    ensures { λ r. ⌜ after-step r (now (justification .exit)) (now (out .exit)) (now (symbols .exit)) (now (rows .exit)) ≡ step-text (now (line .entry)) (shapes (now (bench .entry))) (now (justification .entry) .bindings .terms) (now (out .entry)) (now (symbols .entry)) (now (rows .entry)) ⌝ }
 {
-    check_count(rows, *symbols)?;
     let inner = open(line, 0)?;
     let named = word(line, inner, b"step")?;
     let step = read_step_number(line, named)?;
@@ -53,4 +53,22 @@ pub fn read_step<'a, S: Shapes>(
         shape: keyword.shape,
         words: clause.count,
     })
+}
+
+/// Reads `(step N justification clause)`: the clause's words go to `out`, what stands behind the keyword to `justification`. The count of
+/// symbols stays as it was, and so do their rows where the arities are fixed.
+pub fn read_step<'a, S: Shapes>(
+    line: &'a [u8],
+    bench: &S,
+    rows: &mut [SymbolRow],
+    symbols: &mut usize,
+    out: &mut [u32],
+    justification: &mut Justification,
+) -> Result<StepLine<'a>, Fault>
+    ensures is { λ r. ⌜ after-step r (now (justification .exit)) (now (out .exit)) (now (symbols .exit)) (now (rows .exit)) ≡ step-line (now (line .entry)) (shapes (now (bench .entry))) (now (justification .entry) .bindings .terms) (now (out .entry)) (now (symbols .entry)) (now (rows .entry)) ⌝ }
+    ensures counted { λ r. ⌜ now (symbols .exit) ≡ now (symbols .entry) ⌝ }
+    ensures kept { λ r. ⌜ (Fixed (now (symbols .entry)) (now (rows .entry)) → now (rows .exit) ≡ now (rows .entry)) ⌝ }
+{
+    check_count(rows, *symbols)?;
+    read_text(line, bench, rows, symbols, out, justification)
 }

@@ -6,6 +6,8 @@ use Prim.Native.Nat.{ℕ, zero, suc, _+_, _-_}
 use lib.Dec.{eqb}
 use Rattle.std.specs.declared.result.Result.{Result}
 use Rattle.std.specs.declared.result.Result.the-variants.{Ok, Err}
+use Rattle.logic.specs.Limits as limits
+use Rattle.logic.specs.Words.{symbol-word}
 use Rattle.logic.specs.declared.row.Kind.{Kind}
 use Rattle.logic.specs.declared.row.Kind.the-variants.{Function}
 use Rattle.tokens.specs.declared.fault.Fault.{Fault}
@@ -21,6 +23,10 @@ use Rattle.reading.specs.Terms.{fitting, slot, slot-at, turn, headed-state, wi
 abbrev pub Safe : {A : Type 0} → (Halt → Type 0) → (A → Type 0) → Result A Halt → Type 0
 Safe H G (Ok a) = G a
 Safe H G (Err h) = H h
+
+-- nothing is asked
+abbrev pub Any : {A : Type 0} → A → Type 0
+Any a = Unit {0}
 
 pub bind-safe : {A B : Type 0} (H : Halt → Type 0) (F : A → Type 0) (G : B → Type 0) (r : Result A Halt) (k : A → Result B Halt) → Safe H F r → ((a : A) → F a → Safe H G (k a)) → Safe H G (r >>= k)
 bind-safe H F G (Ok a) k s f = f a s
@@ -93,13 +99,13 @@ module _
       body-safe : (nested : State → Result State Halt) → ((st : State) → G st → Safe H G (nested st)) → (deep : Bool) (base : ℕ) (k : Kind) (st : State) → G st → Safe H G (body bs nested deep base k st)
       body-safe nested ns deep base k st g =
           bind-safe H (λ h. P (h .symbol) × ((w : ℕ) → G (headed-state st h w))) G (head bs k (st .purpose) (st .pos) (st .count) (st .symbols) (st .rows)) _ (heads bs k st g) (λ h q.
-          bind-safe H Pair-good G (args bs nested deep 5 0 (headed-state st h (base + h .symbol))) _ (args-safe nested ns deep 5 0 (headed-state st h (base + h .symbol)) (q .1 (base + h .symbol))) (λ p r.
+          bind-safe H Pair-good G (args bs nested deep (limits.arguments + 1) 0 (headed-state st h (base + h .symbol))) _ (args-safe nested ns deep (limits.arguments + 1) 0 (headed-state st h (base + h .symbol)) (q .1 (base + h .symbol))) (λ p r.
           bind-safe H (λ rows. G (with-rows (p .1) rows)) G (from (p .1) (settle (p .1 .rows) (h .symbol) (p .0) (h .place))) _ (settles (p .1) (h .symbol) (p .0) (h .place) (q .0) r) (λ rows s. s)))
 
       nest-safe : (room : ℕ) (st : State) → G st → Safe H G (nest bs room st)
       unfolding nest
       nest-safe zero st g = g
-      nest-safe (suc room) st g = body-safe (nest bs room) (nest-safe room) (eqb room 0) 256 Function st g
+      nest-safe (suc room) st g = body-safe (nest bs room) (nest-safe room) (eqb room 0) (symbol-word 0) Function st g
 
       pub application-safe : (room base : ℕ) (k : Kind) (st : State) → G st → Safe H G (application bs room base k st)
       unfolding application
@@ -114,4 +120,4 @@ module _
           by : (s : Slot) → Free (full (st .purpose) (st .count)) s → Safe H G (term-turn bs room st s)
           by (Closed e) f = halts st _ g
           by (Variable i e) f = writes st e i f g
-          by (Opened e) f = application-safe (room - 1) 256 Function (moved st e) (moves st e g)
+          by (Opened e) f = application-safe (room - 1) (symbol-word 0) Function (moved st e) (moves st e g)

@@ -1,5 +1,5 @@
 -- A binding's term leaves the words before it as they were, and there are never more than the limit.
-use mathlib.Core.Path.{_≡_, refl, sym, _∙_}
+use mathlib.Core.Path.{_≡_, refl, sym, subst, _∙_}
 use mathlib.Core.Bool.{Bool, true, false, cond}
 use mathlib.Core.List.{List}
 use Prim.Native.Nat.{ℕ, _+_, _<_, _≤_}
@@ -15,17 +15,14 @@ use Rattle.tokens.specs.declared.fault.Fault.{Fault}
 use Rattle.tokens.specs.declared.fault.Fault.the-variants.{ManyWords}
 use Rattle.tokens.specs.Tokens.{lex}
 use Rattle.tokens.specs.Forms.{symbol-form}
+use Rattle.reading.specs.declared.cursor.Cursor.{Cursor}
 use Rattle.reading.specs.declared.cursor.Purpose.{Purpose}
 use Rattle.reading.specs.declared.cursor.Purpose.the-variants.{Rule, Step, Binding}
 use Rattle.reading.specs.Limits as limits
-use Rattle.reading.specs.States.{State, Halt, halt, _>>=_, lift, from, moved, written, full}
+use Rattle.reading.specs.States.{State, Halt, halt, state, after, _>>=_, lift, from, moved, written, full}
 use Rattle.reading.specs.Entering.{Headed, head, settle, meet, room-for-word}
 use Rattle.reading.specs.Terms.{headed-state, with-rows, term}
-use Rattle.reading.proofs.Keeping.{Safe, bind-safe, term-safe}
-
--- nothing is asked of a refusal
-abbrev pub Any : {A : Type 0} → A → Type 0
-Any a = Unit {0}
+use Rattle.reading.proofs.Keeping.{Safe, bind-safe, Any, term-safe}
 
 any-safe : {A : Type 0} (r : Result A Halt) → Safe Any Any r
 any-safe (Ok a) = tt
@@ -69,6 +66,10 @@ module _ (c : ℕ) (old : List ℕ) where
       by (Ok rows) = g
       by (Err f) = tt
 
-  pub term-words-kept : (bs : List ℕ) (room : ℕ) (st : State) → Words-kept st → Safe Any Words-kept (term bs room st)
+  term-words-kept : (bs : List ℕ) (room : ℕ) (st : State) → Words-kept st → Safe Any Words-kept (term bs room st)
   term-words-kept bs room st g =
       term-safe Words-kept Any Any (λ s f h. tt) (λ s e h. h) (λ s e w f h. let more = one-more s w f h in (h .0, more .0, more .1, more .2)) heads settles bs room st g
+
+  -- what the reader of a term leaves
+  pub term-kept : (bs : List ℕ) (room : ℕ) (st : State) (a : Cursor) (out : List ℕ) (n : ℕ) (rows : List SymbolRow) → Words-kept st → after (Ok a) out n rows ≡ term bs room st → Words-kept (state a out n rows)
+  term-kept bs room st a out n rows g e = subst (Safe Any Words-kept) (sym e) (term-words-kept bs room st g)

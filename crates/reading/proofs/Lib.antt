@@ -4,3 +4,5 @@ pub mod Lists
 pub mod Keeping
 pub mod Kept
 pub mod Pushed
+pub mod Whole
+pub mod Sealed

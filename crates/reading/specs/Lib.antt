@@ -4,3 +4,4 @@ pub mod Entering
 pub mod Terms
 pub mod Clauses
 pub mod Bindings
+pub mod Fixed
