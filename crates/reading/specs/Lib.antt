@@ -3,3 +3,5 @@ pub mod States
 pub mod Entering
 pub mod Terms
 pub mod Clauses
+pub mod Bindings
+pub mod Fixed

@@ -28,7 +28,7 @@ use tokens::next;
 use tokens::same;
 
 /// How deep a term may go.
-const ROOM: u32 = 32;
+pub const ROOM: u32 = 32;
 
 /// The two sides of an equation and its closing bracket.
 fn sides(
