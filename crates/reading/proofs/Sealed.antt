@@ -26,11 +26,11 @@ use Rattle.reading.specs.declared.cursor.Purpose.the-variants.{Binding}
 use Rattle.reading.specs.Limits as limits
 use Rattle.reading.specs.States.{State, Halt, halt, _>>=_, lift, from, enters, exceeds}
 use Rattle.reading.specs.Entering.{Met, Headed, head, known, meet, enter, new-row, settle, with-arity, room-for-word}
-use Rattle.reading.specs.Terms.{headed-state, with-rows}
+use Rattle.reading.specs.Terms.{headed-state, with-rows, term}
 use Rattle.reading.specs.Clauses.{opening, clause, clause-from}
 use Rattle.reading.specs.Fixed.{Fixed}
 use Rattle.reading.specs.Bindings.{Bounds, binding-list, bindings-at}
-use Rattle.reading.proofs.Keeping.{Safe, bind-safe, Any, Holds}
+use Rattle.reading.proofs.Keeping.{Safe, bind-safe, Any, Holds, term-safe}
 use Rattle.reading.proofs.Whole.{cond-safe, clause-safe, bindings-safe}
 
 module _ (n : ℕ) (R : List SymbolRow → Type 0) where
@@ -93,6 +93,9 @@ module _ (n : ℕ) (R : List SymbolRow → Type 0) where
         by : (r : Result (List SymbolRow) Fault) → Holds R r → Safe Halted (λ rows. Sealed (with-rows st rows)) (from st r)
         by (Ok rows) h = (g .0, g .1, h)
         by (Err f) h = (g .1, g .2)
+
+    pub term-sealed : (bs : List ℕ) (room : ℕ) (st : State) → Sealed st → Safe Halted Sealed (term bs room st)
+    term-sealed bs room st g = term-safe Sealed Halted (λ s. s < n) (λ st f g. (g .1, g .2)) (λ st e g. g) (λ st e w f g. g) heads settles bs room st g
 
     pub clause-sealed : (bs : List ℕ) (p : Purpose) (pos : ℕ) (out : List ℕ) (rows : List SymbolRow) → enters p ≡ false → R rows → Safe Halted Sealed (clause-from bs p pos out n rows)
     clause-sealed bs p pos out rows sealed r =

@@ -93,7 +93,7 @@ module _ (bs : List ℕ) (p : Purpose) (first : ℕ) (table : List SymbolRow) (f
 
   -- ── A term on its own ──
 
-  term-done : (room : ℕ) (a : State) (t : Term) (us : List Tok) (m : ℕ) → Term-done bs p first table final room a t us m → Done (term bs room) a (term-words t) us m
+  pub term-done : (room : ℕ) (a : State) (t : Term) (us : List Tok) (m : ℕ) → Term-done bs p first table final room a t us m → Done (term bs room) a (term-words t) us m
   term-done room a t us m d =
       let s = bind-ok (from a (slot bs (eqb room 0) (full (a .purpose) (a .count)) false (a .pos))) _ (1, d .b) (d .goes (λ q. Ok (1, q)) 0) in
       record {

@@ -75,7 +75,7 @@ module _ (bs : List ℕ) (s : ℕ) (l : Lexed) (is : l .tok ≡ opens) where
       from-end true k = absurd (no-ok k)
       from-end false k = from-open (eqb (getD bs s 0) 40) k
 
-bracket-place : (bs : List ℕ) (l : Lexed) → lex bs 0 ≡ Ok l → l .tok ≡ opens → l .end - 1 ≡ leading (within Space) bs
+pub bracket-place : (bs : List ℕ) (l : Lexed) → lex bs 0 ≡ Ok l → l .tok ≡ opens → l .end - 1 ≡ leading (within Space) bs
 unfolding lex
 bracket-place bs l e is = let h = opens-at bs (past Space bs 0) l is e in omega arith
 
@@ -165,7 +165,7 @@ spelled-rules-are-lawful line n rows counted step c table s =
     lawful-clause table (table-settled n rows table counted (s .extends)) (s .extends .few) (clause-of (s .spelled) .2)
 
 -- the words in a store that holds them
-words-stored : (ws : List ℕ) (k : ℕ) → length ws ≤ k → take (length ws) (stored (replicate k 0) ws) ≡ ws
+pub words-stored : (ws : List ℕ) (k : ℕ) → length ws ≤ k → take (length ws) (stored (replicate k 0) ws) ≡ ws
 words-stored ws k h =
     let long : length (replicate k 0) ≡ k = length-replicate k 0 in
     let all : take (length (replicate k 0)) ws ≡ ws = ap (λ j. take j ws) long ∙ take-all k ws h in

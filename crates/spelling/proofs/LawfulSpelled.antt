@@ -22,7 +22,7 @@ module _ (table : List SymbolRow) (settled : (k : ℕ) → k < length table → 
       (omega arith, lt, n .kind, n .arity, subst (λ (x : ℕ). x ≤ 4) (n .arity) (settled s lt))
 
   mutual
-    lawful-term : {room : ℕ} {t : Term} {ts us : List Tok} → Spells-term table room t ts us → Lawful-term table t × (deep t ≤ room)
+    pub lawful-term : {room : ℕ} {t : Term} {ts us : List Tok} → Spells-term table room t ts us → Lawful-term table t × (deep t ≤ room)
     lawful-term (a-variable some v) = (omega (arith, v .small), omega arith)
     lawful-term (an-application {s = s} {args = qs} {r = r} names inner) =
         let i = lawful-terms inner in

@@ -16,3 +16,11 @@ pub mod Spacing
 pub mod LawfulSpelled
 pub mod RulesGo
 pub mod Exact
+pub mod SealedTables
+pub mod ReasonsRead
+pub mod StepsRead
+pub mod StepLinesRead
+pub mod ReasonsGo
+pub mod StepsGo
+pub mod StepExact
+pub mod StepUnique

@@ -32,7 +32,7 @@ token-there bs p t e us r h = behind bs p (r .lexed) t e us (r .read) (r .is) (r
 abbrev Answers-for : Tok → ℕ → ℕ → Tok → Type 0
 Answers-for t end e s = (s ≡ t) × (e ≡ end)
 
-opened-is : (at end : ℕ) (t : Tok) (e : ℕ) → opened at end t ≡ Ok e → Answers-for opens end e t
+pub opened-is : (at end : ℕ) (t : Tok) (e : ℕ) → opened at end t ≡ Ok e → Answers-for opens end e t
 opened-is at end opens e h = (refl, sym (ok-same h))
 opened-is at end closes e h = absurd (no-ok h)
 opened-is at end equals e h = absurd (no-ok h)
@@ -81,7 +81,7 @@ abbrev pub Mark-is : Bool → ℕ → Tok → Mark → Type 0
 Mark-is none end t (Closed e) = (t ≡ closes) × (e ≡ end)
 Mark-is none end t (Opened e) = (t ≡ opens) × (e ≡ end) × (none ≡ false)
 
-marked-is : (f : Fault) (none : Bool) (at end : ℕ) (t : Tok) (m : Mark) → marked f none at end t ≡ Ok m → Mark-is none end t m
+pub marked-is : (f : Fault) (none : Bool) (at end : ℕ) (t : Tok) (m : Mark) → marked f none at end t ≡ Ok m → Mark-is none end t m
 marked-is f none at end opens m h =
     let a = cond-ok none f (Ok (Opened end)) m h in
     subst (Mark-is none end opens) (ok-same (a .1)) (refl, refl, a .0)

@@ -100,7 +100,7 @@ module _ (n : ℕ) (rows table : List SymbolRow) (counted : Counted n rows) (ext
 
 -- ── The line ──
 
-step-goes : (bs : List ℕ) (p : ℕ) (l : Lexed) (r : List ℕ) (n : ℕ) → lex bs p ≡ Ok l → l .tok ≡ number r → Numeral r r largest-number n → 0 < n
+pub step-goes : (bs : List ℕ) (p : ℕ) (l : Lexed) (r : List ℕ) (n : ℕ) → lex bs p ≡ Ok l → l .tok ≡ number r → Numeral r r largest-number n → 0 < n
     → step-number bs p ≡ Ok (record { number = n; place = l .place; end = l .end })
 step-goes bs p l r n e t m some =
     let found : number-at bs p ≡ Ok (record { number = n; place = l .place; end = l .end }) =
@@ -110,10 +110,10 @@ step-goes bs p l r n e t m some =
     ap (λ z. z then λ x. cond (eqb (x .number) 0) (Err (Form (x .place))) (Ok x)) found
     ∙ cond-false (eqb n 0) (Err (Form (l .place))) (Ok (record { number = n; place = l .place; end = l .end })) (ne-eqb n 0 (λ q. omega arith))
 
-end-goes : (bs : List ℕ) (p : ℕ) → Tokens bs p [] → line-end bs p ≡ Ok tt
+pub end-goes : (bs : List ℕ) (p : ℕ) → Tokens bs p [] → line-end bs p ≡ Ok tt
 end-goes bs p (stop e) = ap ended e
 
-not-exceeding : (n : ℕ) (rows : List SymbolRow) → n ≤ length rows → n ≤ 256 → exceeds n rows ≡ false
+pub not-exceeding : (n : ℕ) (rows : List SymbolRow) → n ≤ length rows → n ≤ 256 → exceeds n rows ≡ false
 not-exceeding n rows h k = ap₂ _||_ (le-ltb (length rows) n h) (le-ltb 256 n k)
 
 line-goes : (bs out : List ℕ) (n : ℕ) (rows : List SymbolRow) (o w c : ℕ) (m : Numbered) (st : State) → exceeds n rows ≡ false → lift n rows (opening bs 0) ≡ Ok o

@@ -61,7 +61,7 @@ fits-itself m rows short s =
 
 -- ── Numbers and the end of the line ──
 
-number-is : (t : Tok) (at n : ℕ) → number-form t at ≡ Ok n → (r : List ℕ) × (t ≡ number r) × Numeral r r largest-number n
+pub number-is : (t : Tok) (at n : ℕ) → number-form t at ≡ Ok n → (r : List ℕ) × (t ≡ number r) × Numeral r r largest-number n
 number-is opens at n e = absurd (no-ok e)
 number-is closes at n e = absurd (no-ok e)
 number-is equals at n e = absurd (no-ok e)

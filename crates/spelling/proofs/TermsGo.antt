@@ -59,13 +59,13 @@ roomy-left p c ws vs r k h l = r k h (omega (arith, length-append ws vs))
 pub roomy-right : (p : Purpose) (c d : ℕ) (ws vs : List ℕ) → d ≡ c + length ws → Roomy p c (length (ws ++ vs)) → Roomy p d (length vs)
 roomy-right p c d ws vs e r k h l = r k (omega arith) (omega (arith, length-append ws vs))
 
-suc-some : (l : ℕ) → eqb (suc l) 0 ≡ false
+pub suc-some : (l : ℕ) → eqb (suc l) 0 ≡ false
 suc-some l = grind (arith, tells)
 
 pos-some : (n : ℕ) → 0 < n → eqb n 0 ≡ false
 pos-some n h = grind (arith, tells)
 
-variable-goes : (r : List ℕ) (i at : ℕ) → Variable-run r i → variable-form r at ≡ Ok i
+pub variable-goes : (r : List ℕ) (i at : ℕ) → Variable-run r i → variable-form r at ≡ Ok i
 unfolding variable-form
 variable-goes r i at v = numeral-goes r _ (limits.variables - 1) i at v
 

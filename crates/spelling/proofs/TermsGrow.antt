@@ -52,7 +52,7 @@ fitting-ok deep words more at x y e =
     let c = cond-ok more (ManyArguments at) _ y (b .1) in
     (a .0, b .0, c .0, ok-same (c .1))
 
-variable-is : (r : List ℕ) (at i : ℕ) → variable-form r at ≡ Ok i → Variable-run r i
+pub variable-is : (r : List ℕ) (at i : ℕ) → variable-form r at ≡ Ok i → Variable-run r i
 unfolding variable-form
 variable-is r at i e = numeral-is r _ (limits.variables - 1) at i e
 

@@ -1,12 +1,23 @@
 //! What a line spells, in the words of the grammar, and that reading finds exactly that.
 ghost use Rattle.spelling.specs.Spelling.{Rules-are-read-as-spelled, Rules-are-spelled-one-way, Spelled-rules-are-lawful};
+ghost use Rattle.spelling.specs.StepSpelling.{Steps-are-read-as-spelled, Steps-are-spelled-one-way, Spelled-steps-are-lawful};
 
-/// States that a line reads as a rule exactly when it spells one, that it spells one in one way only, and that what it
-/// spells is lawful over the symbols that it leads to.
+/// States, of symbols that are counted within their store and have settled arities: a line reads as a rule exactly when
+/// it spells one; it spells one in one way only; and what it spells is lawful over the symbols that it leads to.
 pub fn rules_are_read_as_spelled() -> u8
     ensures exact { λ _. ⌜ Rules-are-read-as-spelled ⌝ }
     ensures unique { λ _. ⌜ Rules-are-spelled-one-way ⌝ }
     ensures lawful { λ _. ⌜ Spelled-rules-are-lawful ⌝ }
+{
+    0
+}
+
+/// States the same of step lines, of whatever answers keywords with shapes, where the store for the words of bindings
+/// holds as many as there may be.
+pub fn steps_are_read_as_spelled() -> u8
+    ensures exact { λ _. ⌜ Steps-are-read-as-spelled ⌝ }
+    ensures unique { λ _. ⌜ Steps-are-spelled-one-way ⌝ }
+    ensures lawful { λ _. ⌜ Spelled-steps-are-lawful ⌝ }
 {
     0
 }
