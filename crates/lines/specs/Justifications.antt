@@ -78,8 +78,8 @@ cited-at bs table p =
     Ok (record { keyword = k; premises = i; literals = a })
 
 -- bindings, where they are due at all
-abbrev pub bindings-part : List ℕ → Bool → ℕ → List ℕ → ℕ → List SymbolRow → Result Bounds Halt
-bindings-part bs due p terms n rows = cond due (bindings-at bs p terms n rows) (Ok (record { bound = []; end = p; symbols = n; rows = rows }))
+abbrev pub bindings-part : List ℕ → Bool → ℕ → ℕ → List SymbolRow → Result Bounds Halt
+bindings-part bs due p n rows = cond due (bindings-at bs p n rows) (Ok (record { bound = []; end = p; symbols = n; rows = rows }))
 
 -- the first of two numbers, as many as are asked for
 abbrev pub asked : ℕ → List ℕ → List ℕ
@@ -109,12 +109,12 @@ after-justification (Ok k) j n rows =
 after-justification (Err f) j n rows = Err (halt f n rows)
 
 -- the justification that is due
-unfoldable pub justification-at : List ℕ → Table → ℕ → List ℕ → ℕ → List SymbolRow → Result Justified Halt
-justification-at bs table p terms n rows =
+unfoldable pub justification-at : List ℕ → Table → ℕ → ℕ → List SymbolRow → Result Justified Halt
+justification-at bs table p n rows =
     lift n rows (opening bs p) >>= λ o.
     lift n rows (cited-at bs table o) >>= λ c.
     lift n rows (position-part bs (c .keyword .shape .position) (c .literals .end)) >>= λ q.
-    bindings-part bs (c .keyword .shape .bindings) (q .1) terms n rows >>= λ b.
+    bindings-part bs (c .keyword .shape .bindings) (q .1) n rows >>= λ b.
     lift (b .symbols) (b .rows) (closing bs (b .end)) >>= λ e.
     Ok (record {
       keyword = record { run = c .keyword .run; shape = c .keyword .shape; end = e };

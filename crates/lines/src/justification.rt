@@ -116,7 +116,7 @@ fn read_bindings_part(
     from: usize,
     due: bool,
 ) -> Result<usize, Fault>
-    ensures { λ r. ⌜ after-bindings r (now (bindings .exit)) (now (symbols .exit)) (now (rows .exit)) ≡ bindings-part (now (line .entry)) due from (now (bindings .entry) .terms) (now (symbols .entry)) (now (rows .entry)) ⌝ }
+    ensures { λ r. ⌜ after-bindings r (now (bindings .exit)) (now (symbols .exit)) (now (rows .exit)) ≡ bindings-part (now (line .entry)) due from (now (symbols .entry)) (now (rows .entry)) ⌝ }
 {
     if due {
         read_bindings(line, rows, symbols, bindings, from)
@@ -135,7 +135,7 @@ pub fn read_justification<'a, S: Shapes>(
     justification: &mut Justification,
     from: usize,
 ) -> Result<Keyword<'a>, Fault>
-    ensures { λ r. ⌜ after-justification r (now (justification .exit)) (now (symbols .exit)) (now (rows .exit)) ≡ justification-at (now (line .entry)) (shapes (now (bench .entry))) from (now (justification .entry) .bindings .terms) (now (symbols .entry)) (now (rows .entry)) ⌝ }
+    ensures { λ r. ⌜ after-justification r (now (justification .exit)) (now (symbols .exit)) (now (rows .exit)) ≡ justification-at (now (line .entry)) (shapes (now (bench .entry))) from (now (symbols .entry)) (now (rows .entry)) ⌝ }
 {
     let inner = open(line, from)?;
     let cited = read_cited(line, bench, inner)?;

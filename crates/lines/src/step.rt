@@ -37,7 +37,7 @@ fn read_text<'a, S: Shapes>(
     out: &mut [u32],
     justification: &mut Justification,
 ) -> Result<StepLine<'a>, Fault>
-    ensures { λ r. ⌜ after-step r (now (justification .exit)) (now (out .exit)) (now (symbols .exit)) (now (rows .exit)) ≡ step-text (now (line .entry)) (shapes (now (bench .entry))) (now (justification .entry) .bindings .terms) (now (out .entry)) (now (symbols .entry)) (now (rows .entry)) ⌝ }
+    ensures { λ r. ⌜ after-step r (now (justification .exit)) (now (out .exit)) (now (symbols .exit)) (now (rows .exit)) ≡ step-text (now (line .entry)) (shapes (now (bench .entry))) (now (out .entry)) (now (symbols .entry)) (now (rows .entry)) ⌝ }
 {
     let inner = open(line, 0)?;
     let named = word(line, inner, b"step")?;
@@ -65,7 +65,7 @@ pub fn read_step<'a, S: Shapes>(
     out: &mut [u32],
     justification: &mut Justification,
 ) -> Result<StepLine<'a>, Fault>
-    ensures is { λ r. ⌜ after-step r (now (justification .exit)) (now (out .exit)) (now (symbols .exit)) (now (rows .exit)) ≡ step-line (now (line .entry)) (shapes (now (bench .entry))) (now (justification .entry) .bindings .terms) (now (out .entry)) (now (symbols .entry)) (now (rows .entry)) ⌝ }
+    ensures is { λ r. ⌜ after-step r (now (justification .exit)) (now (out .exit)) (now (symbols .exit)) (now (rows .exit)) ≡ step-line (now (line .entry)) (shapes (now (bench .entry))) (now (out .entry)) (now (symbols .entry)) (now (rows .entry)) ⌝ }
     ensures counted { λ r. ⌜ now (symbols .exit) ≡ now (symbols .entry) ⌝ }
     ensures kept { λ r. ⌜ (Fixed (now (symbols .entry)) (now (rows .entry)) → now (rows .exit) ≡ now (rows .entry)) ⌝ }
 {

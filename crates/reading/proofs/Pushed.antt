@@ -16,7 +16,15 @@ use Rattle.std.proofs.shelf.Ways.{tells}
 use Rattle.reading.specs.declared.bindings.Bindings.{Bindings}
 use Rattle.reading.specs.Limits as limits
 use Rattle.reading.specs.States.{State, _>>=_, from}
-use Rattle.reading.specs.Bindings.{Bound, held-at, held, Filled, cleared, with-terms, pushed, binding-mark, binding-turn, binding, binding-list}
+use Rattle.reading.specs.Bindings.{Bound, held-at, held, Filled, pushed, binding-mark, binding-turn, binding, binding-list}
+
+-- no binding
+abbrev pub cleared : Bindings → Bindings
+cleared b = record { variables = b .variables; places = set (b .places) 0 0; terms = b .terms; count = 0 }
+
+-- other words behind those of the bindings
+abbrev pub with-terms : Bindings → List ℕ → Bindings
+with-terms b terms = record { variables = b .variables; places = b .places; terms = terms; count = b .count }
 
 abbrev bound : ℕ → List ℕ → Bound
 bound i ws = record { variable = i; words = ws }
@@ -25,7 +33,7 @@ counted-same : {X : Type 0} (f g : ℕ → X) (a n : ℕ) → ((k : ℕ) → a �
 counted-same f g a zero h = refl
 counted-same f g a (suc n) h = ap₂ (λ x xs. x ∷ xs) (h a (omega arith) (omega arith)) (counted-same f g (a + 1) n (λ k l m. h k (omega arith) (omega arith)))
 
-between-same : (xs ys : List ℕ) (i j c : ℕ) → take c xs ≡ take c ys → j ≤ c → between i j xs ≡ between i j ys
+pub between-same : (xs ys : List ℕ) (i j c : ℕ) → take c xs ≡ take c ys → j ≤ c → between i j xs ≡ between i j ys
 between-same xs ys i j c e h =
     between-is xs i j ∙ ap (drop i) (sym (take-take j c xs h) ∙ ap (take j) e ∙ take-take j c ys h) ∙ sym (between-is ys i j)
 
