@@ -1,7 +1,7 @@
 -- Justifications: only those parts that the shape of the inference rule says.
 use mathlib.Core.Bool.{Bool, cond}
 use mathlib.Core.List.{List, [], _∷_}
-use Prim.Native.Nat.{ℕ}
+use Prim.Native.Nat.{ℕ, _≤_}
 use lib.Dec.{eqb}
 use lib.ListN.{getD, take}
 use Rattle.std.specs.declared.option.Option.{Option}
@@ -15,12 +15,13 @@ use Rattle.tokens.specs.Tokens.{lex}
 use Rattle.tokens.specs.Forms.{keyword-form}
 use Rattle.reading.specs.States.{Halt, halt, _>>=_, _then_, lift}
 use Rattle.reading.specs.Clauses.{opening, closing}
-use Rattle.reading.specs.Bindings.{Bound, Bounds, held, bindings-at}
+use Rattle.reading.specs.Bindings.{Bound, Bounds, In-order, held, bindings-at}
 use Rattle.lines.specs.declared.shape.Shape.{Shape}
 use Rattle.lines.specs.declared.justification.Few.{Few}
 use Rattle.lines.specs.declared.justification.Keyword.{Keyword}
 use Rattle.lines.specs.declared.justification.Cited.{Cited}
 use Rattle.lines.specs.declared.justification.Justification.{Justification}
+use Rattle.lines.specs.Limits as limits
 use Rattle.lines.specs.Numbers.{number-at}
 use Rattle.lines.specs.Positions.{position-part}
 
@@ -94,6 +95,10 @@ pub record Justified : Type 0 where
   pub bound : List Bound
   pub symbols : ℕ
   pub rows : List SymbolRow
+
+-- its position and its bindings lie within their stores
+abbrev pub Usable : Justification → Type 0
+Usable j = (j .steps ≤ limits.position-numbers) × (In-order (j .bindings))
 
 abbrev pub after-justification : Result Keyword Fault → Justification → ℕ → List SymbolRow → Result Justified Halt
 after-justification (Ok k) j n rows =

@@ -2,7 +2,7 @@
 use mathlib.Core.Path.{_≡_}
 use mathlib.Core.Bool.{Bool, cond}
 use mathlib.Core.List.{List, [], _∷_, _++_, map}
-use Prim.Native.Nat.{ℕ, zero, suc, _+_, _≤_}
+use Prim.Native.Nat.{ℕ, zero, suc, _+_, _<_, _≤_}
 use lib.Dec.{eqb}
 use lib.ListN.{getD, set, replicate}
 use Rattle.std.specs.Holes.{between}
@@ -62,11 +62,18 @@ held-at b k = record { variable = getD (b .variables) k 0; words = between (getD
 abbrev pub held : Bindings → List Bound
 held b = map (held-at b) (counting 0 (b .count))
 
+-- places in order and within the store, so that the words of each binding can be taken
+abbrev pub In-order : Bindings → Type 0
+In-order b =
+    (b .count ≤ limits.bindings)
+    × ((k : ℕ) → k < b .count → (getD (b .places) k 0 ≤ getD (b .places) (k + 1) 0) × (getD (b .places) (k + 1) 0 ≤ limits.binding-words))
+
 -- the terms have c words together
 abbrev pub Filled : Bindings → ℕ → Type 0
 Filled b c =
     (b .count ≤ limits.bindings) × (c ≤ limits.binding-words) × (getD (b .places) (b .count) 0 ≡ c)
     × ((k : ℕ) → k ≤ b .count → getD (b .places) k 0 ≤ c)
+    × ((k : ℕ) → k < b .count → getD (b .places) k 0 ≤ getD (b .places) (k + 1) 0)
 
 -- one binding more, whose term ends at `end`
 abbrev pub pushed : Bindings → ℕ → ℕ → Bindings
