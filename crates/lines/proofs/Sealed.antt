@@ -30,24 +30,24 @@ module _ (n : ℕ) (R : List SymbolRow → Type 0) (keeps : (rows : List SymbolR
   abbrev Stepped-sealed : Stepped → Type 0
   Stepped-sealed s = (s .symbols ≡ n) × R (s .rows)
 
-  justification-sealed : (p : ℕ) (terms : List ℕ) (rows : List SymbolRow) → R rows → Safe (Halted n R) Justified-sealed (justification-at bs table p terms n rows)
+  justification-sealed : (p : ℕ) (rows : List SymbolRow) → R rows → Safe (Halted n R) Justified-sealed (justification-at bs table p n rows)
   unfolding justification-at
-  justification-sealed p terms rows r =
+  justification-sealed p rows r =
       bind-safe (Halted n R) Any Justified-sealed (lift n rows (opening bs p)) _ (lift-sealed n R n rows (opening bs p) refl r) (λ o _.
       bind-safe (Halted n R) Any Justified-sealed (lift n rows (cited-at bs table o)) _ (lift-sealed n R n rows (cited-at bs table o) refl r) (λ c _.
       bind-safe (Halted n R) Any Justified-sealed (lift n rows (position-part bs (c .keyword .shape .position) (c .literals .end))) _ (lift-sealed n R n rows (position-part bs (c .keyword .shape .position) (c .literals .end)) refl r) (λ q _.
-      bind-safe (Halted n R) (Bound-sealed n R keeps) Justified-sealed (bindings-part bs (c .keyword .shape .bindings) (q .1) terms n rows) _
-      (cond-safe (Halted n R) (Bound-sealed n R keeps) (c .keyword .shape .bindings) (bindings-at bs (q .1) terms n rows) (Ok (record { bound = []; end = q .1; symbols = n; rows = rows })) (bindings-sealed n R keeps bs (q .1) terms rows r) (refl, r))
+      bind-safe (Halted n R) (Bound-sealed n R keeps) Justified-sealed (bindings-part bs (c .keyword .shape .bindings) (q .1) n rows) _
+      (cond-safe (Halted n R) (Bound-sealed n R keeps) (c .keyword .shape .bindings) (bindings-at bs (q .1) n rows) (Ok (record { bound = []; end = q .1; symbols = n; rows = rows })) (bindings-sealed n R keeps bs (q .1) rows r) (refl, r))
       (λ b w.
       bind-safe (Halted n R) Any Justified-sealed (lift (b .symbols) (b .rows) (closing bs (b .end))) _ (lift-sealed n R (b .symbols) (b .rows) (closing bs (b .end)) (w .0) (w .1)) (λ e _. w)))))
 
-  step-sealed : (terms out : List ℕ) (rows : List SymbolRow) → R rows → Safe (Halted n R) Stepped-sealed (step-text bs table terms out n rows)
+  step-sealed : (out : List ℕ) (rows : List SymbolRow) → R rows → Safe (Halted n R) Stepped-sealed (step-text bs table out n rows)
   unfolding step-text
-  step-sealed terms out rows r =
+  step-sealed out rows r =
       bind-safe (Halted n R) Any Stepped-sealed (lift n rows (opening bs 0)) _ (lift-sealed n R n rows (opening bs 0) refl r) (λ o _.
       bind-safe (Halted n R) Any Stepped-sealed (lift n rows (wording (codes "step") bs o)) _ (lift-sealed n R n rows (wording (codes "step") bs o) refl r) (λ w _.
       bind-safe (Halted n R) Any Stepped-sealed (lift n rows (step-number bs w)) _ (lift-sealed n R n rows (step-number bs w) refl r) (λ m _.
-      bind-safe (Halted n R) Justified-sealed Stepped-sealed (justification-at bs table (m .end) terms n rows) _ (justification-sealed (m .end) terms rows r) (λ j k.
+      bind-safe (Halted n R) Justified-sealed Stepped-sealed (justification-at bs table (m .end) n rows) _ (justification-sealed (m .end) rows r) (λ j k.
       bind-safe (Halted n R) (Sealed n R) Stepped-sealed (clause-from bs Step (j .keyword .end) out (j .symbols) (j .rows)) _
       (subst (λ i. Safe (Halted n R) (Sealed n R) (clause-from bs Step (j .keyword .end) out i (j .rows))) (sym (k .0)) (clause-sealed n R keeps bs Step (j .keyword .end) out (j .rows) refl (k .1)))
       (λ st g.
@@ -58,13 +58,13 @@ module _ (n : ℕ) (R : List SymbolRow → Type 0) (keeps : (rows : List SymbolR
   after-sealed (Ok l) j out m rows s = s
   after-sealed (Err f) j out m rows s = s
 
-  step-after : (terms out : List ℕ) (rows : List SymbolRow) (a : Result StepLine Fault) (j : Justification) (last : List ℕ) (m : ℕ) (then-rows : List SymbolRow) → R rows → after-step a j last m then-rows ≡ step-text bs table terms out n rows → (m ≡ n) × R then-rows
-  step-after terms out rows a j last m then-rows r e =
-      after-sealed a j last m then-rows (subst (Safe (Halted n R) Stepped-sealed) (sym e) (step-sealed terms out rows r))
+  step-after : (out : List ℕ) (rows : List SymbolRow) (a : Result StepLine Fault) (j : Justification) (last : List ℕ) (m : ℕ) (then-rows : List SymbolRow) → R rows → after-step a j last m then-rows ≡ step-text bs table out n rows → (m ≡ n) × R then-rows
+  step-after out rows a j last m then-rows r e =
+      after-sealed a j last m then-rows (subst (Safe (Halted n R) Stepped-sealed) (sym e) (step-sealed out rows r))
 
-module _ (bs : List ℕ) (table : Table) (terms out : List ℕ) (n : ℕ) (rows : List SymbolRow) (a : Result StepLine Fault) (j : Justification) (last : List ℕ) (m : ℕ) (then-rows : List SymbolRow) where
-  pub step-counted : after-step a j last m then-rows ≡ step-text bs table terms out n rows → m ≡ n
-  step-counted e = step-after n Any (settle-any n) bs table terms out rows a j last m then-rows tt e .0
+module _ (bs : List ℕ) (table : Table) (out : List ℕ) (n : ℕ) (rows : List SymbolRow) (a : Result StepLine Fault) (j : Justification) (last : List ℕ) (m : ℕ) (then-rows : List SymbolRow) where
+  pub step-counted : after-step a j last m then-rows ≡ step-text bs table out n rows → m ≡ n
+  step-counted e = step-after n Any (settle-any n) bs table out rows a j last m then-rows tt e .0
 
-  pub step-kept : after-step a j last m then-rows ≡ step-text bs table terms out n rows → Fixed n rows → then-rows ≡ rows
-  step-kept e fixed = step-after n (λ now. now ≡ rows) (settle-same n rows fixed) bs table terms out rows a j last m then-rows refl e .1
+  pub step-kept : after-step a j last m then-rows ≡ step-text bs table out n rows → Fixed n rows → then-rows ≡ rows
+  step-kept e fixed = step-after n (λ now. now ≡ rows) (settle-same n rows fixed) bs table out rows a j last m then-rows refl e .1

@@ -1,7 +1,7 @@
 -- Justifications: only those parts that the shape of the inference rule says.
 use mathlib.Core.Bool.{Bool, cond}
 use mathlib.Core.List.{List, [], _∷_}
-use Prim.Native.Nat.{ℕ}
+use Prim.Native.Nat.{ℕ, _≤_}
 use lib.Dec.{eqb}
 use lib.ListN.{getD, take}
 use Rattle.std.specs.declared.option.Option.{Option}
@@ -15,12 +15,13 @@ use Rattle.tokens.specs.Tokens.{lex}
 use Rattle.tokens.specs.Forms.{keyword-form}
 use Rattle.reading.specs.States.{Halt, halt, _>>=_, _then_, lift}
 use Rattle.reading.specs.Clauses.{opening, closing}
-use Rattle.reading.specs.Bindings.{Bound, Bounds, held, bindings-at}
+use Rattle.reading.specs.Bindings.{Bound, Bounds, In-order, held, bindings-at}
 use Rattle.lines.specs.declared.shape.Shape.{Shape}
 use Rattle.lines.specs.declared.justification.Few.{Few}
 use Rattle.lines.specs.declared.justification.Keyword.{Keyword}
 use Rattle.lines.specs.declared.justification.Cited.{Cited}
 use Rattle.lines.specs.declared.justification.Justification.{Justification}
+use Rattle.lines.specs.Limits as limits
 use Rattle.lines.specs.Numbers.{number-at}
 use Rattle.lines.specs.Positions.{position-part}
 
@@ -78,8 +79,8 @@ cited-at bs table p =
     Ok (record { keyword = k; premises = i; literals = a })
 
 -- bindings, where they are due at all
-abbrev pub bindings-part : List ℕ → Bool → ℕ → List ℕ → ℕ → List SymbolRow → Result Bounds Halt
-bindings-part bs due p terms n rows = cond due (bindings-at bs p terms n rows) (Ok (record { bound = []; end = p; symbols = n; rows = rows }))
+abbrev pub bindings-part : List ℕ → Bool → ℕ → ℕ → List SymbolRow → Result Bounds Halt
+bindings-part bs due p n rows = cond due (bindings-at bs p n rows) (Ok (record { bound = []; end = p; symbols = n; rows = rows }))
 
 -- the first of two numbers, as many as are asked for
 abbrev pub asked : ℕ → List ℕ → List ℕ
@@ -95,6 +96,10 @@ pub record Justified : Type 0 where
   pub symbols : ℕ
   pub rows : List SymbolRow
 
+-- its position and its bindings lie within their stores
+abbrev pub Usable : Justification → Type 0
+Usable j = (j .steps ≤ limits.position-numbers) × (In-order (j .bindings))
+
 abbrev pub after-justification : Result Keyword Fault → Justification → ℕ → List SymbolRow → Result Justified Halt
 after-justification (Ok k) j n rows =
     Ok (record {
@@ -109,12 +114,12 @@ after-justification (Ok k) j n rows =
 after-justification (Err f) j n rows = Err (halt f n rows)
 
 -- the justification that is due
-unfoldable pub justification-at : List ℕ → Table → ℕ → List ℕ → ℕ → List SymbolRow → Result Justified Halt
-justification-at bs table p terms n rows =
+unfoldable pub justification-at : List ℕ → Table → ℕ → ℕ → List SymbolRow → Result Justified Halt
+justification-at bs table p n rows =
     lift n rows (opening bs p) >>= λ o.
     lift n rows (cited-at bs table o) >>= λ c.
     lift n rows (position-part bs (c .keyword .shape .position) (c .literals .end)) >>= λ q.
-    bindings-part bs (c .keyword .shape .bindings) (q .1) terms n rows >>= λ b.
+    bindings-part bs (c .keyword .shape .bindings) (q .1) n rows >>= λ b.
     lift (b .symbols) (b .rows) (closing bs (b .end)) >>= λ e.
     Ok (record {
       keyword = record { run = c .keyword .run; shape = c .keyword .shape; end = e };

@@ -50,13 +50,13 @@ after-step (Ok l) j out n rows =
     })
 after-step (Err f) j out n rows = Err (halt f n rows)
 
--- what the text of a step line reads as; `terms` and `out` are the stores for the words of bindings and of the clause
-unfoldable pub step-text : List ℕ → Table → List ℕ → List ℕ → ℕ → List SymbolRow → Result Stepped Halt
-step-text bs table terms out n rows =
+-- what the text of a step line reads as; `out` is the store for the words of its clause
+unfoldable pub step-text : List ℕ → Table → List ℕ → ℕ → List SymbolRow → Result Stepped Halt
+step-text bs table out n rows =
     lift n rows (opening bs 0) >>= λ o.
     lift n rows (wording (codes "step") bs o) >>= λ w.
     lift n rows (step-number bs w) >>= λ m.
-    justification-at bs table (m .end) terms n rows >>= λ j.
+    justification-at bs table (m .end) n rows >>= λ j.
     clause-from bs Step (j .keyword .end) out (j .symbols) (j .rows) >>= λ st.
     from st (closing bs (st .pos)) >>= λ c.
     from st (line-end bs c) >>= λ e.
@@ -76,5 +76,5 @@ step-text bs table terms out n rows =
     })
 
 -- what a line reads as, as a step line; the count of symbols must not exceed their store
-abbrev pub step-line : List ℕ → Table → List ℕ → List ℕ → ℕ → List SymbolRow → Result Stepped Halt
-step-line bs table terms out n rows = lift n rows (count-checked n rows) >>= λ u. step-text bs table terms out n rows
+abbrev pub step-line : List ℕ → Table → List ℕ → ℕ → List SymbolRow → Result Stepped Halt
+step-line bs table out n rows = lift n rows (count-checked n rows) >>= λ u. step-text bs table out n rows

@@ -1,7 +1,8 @@
 //! Justifications.
 ghost use mathlib.Core.Path.{_≡_};
-ghost use Rattle.reading.specs.Bindings.{after-bindings};
-ghost use Rattle.lines.specs.Justifications.{few-at, after-keyword, keyword-at, after-cited, cited-at, bindings-part, after-justification, justification-at};
+ghost use Rattle.std.specs.Vec.{made};
+ghost use Rattle.reading.specs.Bindings.{In-order, after-bindings};
+ghost use Rattle.lines.specs.Justifications.{few-at, after-keyword, keyword-at, after-cited, cited-at, bindings-part, Usable, after-justification, justification-at};
 use crate::number::read_number;
 use crate::position::POSITION_NUMBERS;
 use crate::position::read_position_part;
@@ -116,7 +117,8 @@ fn read_bindings_part(
     from: usize,
     due: bool,
 ) -> Result<usize, Fault>
-    ensures { λ r. ⌜ after-bindings r (now (bindings .exit)) (now (symbols .exit)) (now (rows .exit)) ≡ bindings-part (now (line .entry)) due from (now (bindings .entry) .terms) (now (symbols .entry)) (now (rows .entry)) ⌝ }
+    ensures is { λ r. ⌜ after-bindings r (now (bindings .exit)) (now (symbols .exit)) (now (rows .exit)) ≡ bindings-part (now (line .entry)) due from (now (symbols .entry)) (now (rows .entry)) ⌝ }
+    ensures ordered { λ r. ⌜ made r (λ _. In-order (now (bindings .exit))) ⌝ }
 {
     if due {
         read_bindings(line, rows, symbols, bindings, from)
@@ -135,7 +137,8 @@ pub fn read_justification<'a, S: Shapes>(
     justification: &mut Justification,
     from: usize,
 ) -> Result<Keyword<'a>, Fault>
-    ensures { λ r. ⌜ after-justification r (now (justification .exit)) (now (symbols .exit)) (now (rows .exit)) ≡ justification-at (now (line .entry)) (shapes (now (bench .entry))) from (now (justification .entry) .bindings .terms) (now (symbols .entry)) (now (rows .entry)) ⌝ }
+    ensures is { λ r. ⌜ after-justification r (now (justification .exit)) (now (symbols .exit)) (now (rows .exit)) ≡ justification-at (now (line .entry)) (shapes (now (bench .entry))) from (now (symbols .entry)) (now (rows .entry)) ⌝ }
+    ensures usable { λ r. ⌜ made r (λ _. Usable (now (justification .exit))) ⌝ }
 {
     let inner = open(line, from)?;
     let cited = read_cited(line, bench, inner)?;

@@ -55,7 +55,8 @@ fn position_list(
     given: usize,
 ) -> Result<Steps, Fault>
     requires { ⌜ given ≤ position-numbers ⌝ }
-    ensures { λ r. ⌜ after-position r (now (position .exit)) ≡ position-list (now (line .entry)) (position-numbers + 1 - given) (take given (now (position .entry))) from ⌝ }
+    ensures is { λ r. ⌜ after-position r (now (position .exit)) ≡ position-list (now (line .entry)) (position-numbers + 1 - given) (take given (now (position .entry))) from ⌝ }
+    ensures few { λ r. ⌜ made r (λ s. s .count ≤ position-numbers) ⌝ }
 {
     match read_turn(line, from, given)? {
         Turn::Closed(end) => Ok(Steps { count: given, end }),
@@ -72,7 +73,8 @@ fn read_position(
     position: &mut [u32; POSITION_NUMBERS],
     from: usize,
 ) -> Result<Steps, Fault>
-    ensures { λ r. ⌜ after-position r (now (position .exit)) ≡ position-at (now (line .entry)) from ⌝ }
+    ensures is { λ r. ⌜ after-position r (now (position .exit)) ≡ position-at (now (line .entry)) from ⌝ }
+    ensures few { λ r. ⌜ made r (λ s. s .count ≤ position-numbers) ⌝ }
 {
     let inner = open(line, from)?;
     position_list(line, position, inner, 0)
@@ -85,7 +87,8 @@ pub fn read_position_part(
     from: usize,
     due: bool,
 ) -> Result<Steps, Fault>
-    ensures { λ r. ⌜ after-position r (now (position .exit)) ≡ position-part (now (line .entry)) due from ⌝ }
+    ensures is { λ r. ⌜ after-position r (now (position .exit)) ≡ position-part (now (line .entry)) due from ⌝ }
+    ensures few { λ r. ⌜ made r (λ s. s .count ≤ position-numbers) ⌝ }
 {
     if due {
         read_position(line, position, from)

@@ -1,6 +1,8 @@
 //! Step lines.
 ghost use mathlib.Core.Path.{_≡_};
+ghost use Rattle.std.specs.Vec.{made};
 ghost use Rattle.reading.specs.Fixed.{Fixed};
+ghost use Rattle.lines.specs.Justifications.{Usable};
 ghost use Rattle.lines.specs.Steps.{after-step, step-text, step-line};
 use crate::justification::Justification;
 use crate::justification::read_justification;
@@ -37,7 +39,8 @@ fn read_text<'a, S: Shapes>(
     out: &mut [u32],
     justification: &mut Justification,
 ) -> Result<StepLine<'a>, Fault>
-    ensures { λ r. ⌜ after-step r (now (justification .exit)) (now (out .exit)) (now (symbols .exit)) (now (rows .exit)) ≡ step-text (now (line .entry)) (shapes (now (bench .entry))) (now (justification .entry) .bindings .terms) (now (out .entry)) (now (symbols .entry)) (now (rows .entry)) ⌝ }
+    ensures is { λ r. ⌜ after-step r (now (justification .exit)) (now (out .exit)) (now (symbols .exit)) (now (rows .exit)) ≡ step-text (now (line .entry)) (shapes (now (bench .entry))) (now (out .entry)) (now (symbols .entry)) (now (rows .entry)) ⌝ }
+    ensures usable { λ r. ⌜ made r (λ _. Usable (now (justification .exit))) ⌝ }
 {
     let inner = open(line, 0)?;
     let named = word(line, inner, b"step")?;
@@ -65,7 +68,8 @@ pub fn read_step<'a, S: Shapes>(
     out: &mut [u32],
     justification: &mut Justification,
 ) -> Result<StepLine<'a>, Fault>
-    ensures is { λ r. ⌜ after-step r (now (justification .exit)) (now (out .exit)) (now (symbols .exit)) (now (rows .exit)) ≡ step-line (now (line .entry)) (shapes (now (bench .entry))) (now (justification .entry) .bindings .terms) (now (out .entry)) (now (symbols .entry)) (now (rows .entry)) ⌝ }
+    ensures is { λ r. ⌜ after-step r (now (justification .exit)) (now (out .exit)) (now (symbols .exit)) (now (rows .exit)) ≡ step-line (now (line .entry)) (shapes (now (bench .entry))) (now (out .entry)) (now (symbols .entry)) (now (rows .entry)) ⌝ }
+    ensures usable { λ r. ⌜ made r (λ _. Usable (now (justification .exit))) ⌝ }
     ensures counted { λ r. ⌜ now (symbols .exit) ≡ now (symbols .entry) ⌝ }
     ensures kept { λ r. ⌜ (Fixed (now (symbols .entry)) (now (rows .entry)) → now (rows .exit) ≡ now (rows .entry)) ⌝ }
 {

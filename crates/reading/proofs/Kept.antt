@@ -28,7 +28,7 @@ any-safe : {A : Type 0} (r : Result A Halt) → Safe Any Any r
 any-safe (Ok a) = tt
 any-safe (Err h) = tt
 
-not-full : (p : Purpose) (n : ℕ) → p ≡ Binding → full p n ≡ false → n < limits.binding-words
+pub not-full : (p : Purpose) (n : ℕ) → p ≡ Binding → full p n ≡ false → n < limits.binding-words
 not-full Rule n e f = let z : _≡_ {A = ℕ} 0 1 = cc in absurd (omega arith)
 not-full Step n e f = let z : _≡_ {A = ℕ} 0 1 = cc in absurd (omega arith)
 not-full Binding n e f = leb-false limits.binding-words n f
@@ -40,6 +40,17 @@ room-safe H p count at n rows h = by (full p count) refl
     by : (q : Bool) → full p count ≡ q → Safe {A = Unit {0}} H (λ _. full p count ≡ false) (lift n rows (cond q (Err (ManyWords at)) (Ok tt)))
     by true e = h (ManyWords at)
     by false e = e
+
+-- nor is a symbol met elsewhere
+pub head-free : (bs : List ℕ) (k : Kind) (p : Purpose) (pos count n : ℕ) (rows : List SymbolRow) → Safe Any (λ _. full p count ≡ false) (head bs k p pos count n rows)
+head-free bs k p pos count n rows =
+    bind-safe Any Any Room (lift n rows (lex bs pos)) _ (any-safe (lift n rows (lex bs pos))) (λ l _.
+    bind-safe Any Any Room (lift n rows (symbol-form (l .tok) (l .place))) _ (any-safe (lift n rows (symbol-form (l .tok) (l .place)))) (λ name _.
+    bind-safe Any (λ _. full p count ≡ false) Room (lift n rows (room-for-word {A = Unit {0}} p count (l .place) (Ok tt))) _ (room-safe Any p count (l .place) n rows (λ f. tt)) (λ u free.
+    bind-safe Any Any Room (meet p k name (l .place) n rows) _ (any-safe (meet p k name (l .place) n rows)) (λ m _. free))))
+  where
+    Room : Headed → Type 0
+    Room h = full p count ≡ false
 
 module _ (c : ℕ) (old : List ℕ) where
   -- the first c words are the old ones
@@ -53,11 +64,11 @@ module _ (c : ℕ) (old : List ℕ) where
   Headed-kept st h = Unit {0} × ((w : ℕ) → Words-kept (headed-state st h w))
 
   heads : (bs : List ℕ) (k : Kind) (st : State) → Words-kept st → Safe Any (Headed-kept st) (head bs k (st .purpose) (st .pos) (st .count) (st .symbols) (st .rows))
-  heads bs k st g =
-      bind-safe Any Any (Headed-kept st) (lift (st .symbols) (st .rows) (lex bs (st .pos))) _ (any-safe (lift (st .symbols) (st .rows) (lex bs (st .pos)))) (λ l _.
-      bind-safe Any Any (Headed-kept st) (lift (st .symbols) (st .rows) (symbol-form (l .tok) (l .place))) _ (any-safe (lift (st .symbols) (st .rows) (symbol-form (l .tok) (l .place)))) (λ name _.
-      bind-safe Any (λ _. full (st .purpose) (st .count) ≡ false) (Headed-kept st) (lift (st .symbols) (st .rows) (room-for-word {A = Unit {0}} (st .purpose) (st .count) (l .place) (Ok tt))) _ (room-safe Any (st .purpose) (st .count) (l .place) (st .symbols) (st .rows) (λ f. tt)) (λ u free.
-      bind-safe Any Any (Headed-kept st) (meet (st .purpose) k name (l .place) (st .symbols) (st .rows)) _ (any-safe (meet (st .purpose) k name (l .place) (st .symbols) (st .rows))) (λ m _. (tt, λ w. let more = one-more st w free g in (g .0, more .0, more .1, more .2))))))
+  heads bs k st g = onward (head bs k (st .purpose) (st .pos) (st .count) (st .symbols) (st .rows)) (head-free bs k (st .purpose) (st .pos) (st .count) (st .symbols) (st .rows))
+    where
+      onward : (r : Result Headed Halt) → Safe Any (λ _. full (st .purpose) (st .count) ≡ false) r → Safe Any (Headed-kept st) r
+      onward (Ok h) free = (tt, λ w. let more = one-more st w free g in (g .0, more .0, more .1, more .2))
+      onward (Err h) free = tt
 
   settles : (st : State) (s given at : ℕ) → Unit {0} → Words-kept st → Safe Any (λ rows. Words-kept (with-rows st rows)) (from st (settle (st .rows) s given at))
   settles st s given at u g = by (settle (st .rows) s given at)

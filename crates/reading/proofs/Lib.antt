@@ -6,3 +6,4 @@ pub mod Kept
 pub mod Pushed
 pub mod Whole
 pub mod Sealed
+pub mod Blind

@@ -16,7 +16,15 @@ use Rattle.std.proofs.shelf.Ways.{tells}
 use Rattle.reading.specs.declared.bindings.Bindings.{Bindings}
 use Rattle.reading.specs.Limits as limits
 use Rattle.reading.specs.States.{State, _>>=_, from}
-use Rattle.reading.specs.Bindings.{Bound, held-at, held, Filled, cleared, with-terms, pushed, binding-mark, binding-turn, binding, binding-list}
+use Rattle.reading.specs.Bindings.{Bound, held-at, held, In-order, Filled, pushed, binding-mark, binding-turn, binding, binding-list}
+
+-- no binding
+abbrev pub cleared : Bindings → Bindings
+cleared b = record { variables = b .variables; places = set (b .places) 0 0; terms = b .terms; count = 0 }
+
+-- other words behind those of the bindings
+abbrev pub with-terms : Bindings → List ℕ → Bindings
+with-terms b terms = record { variables = b .variables; places = b .places; terms = terms; count = b .count }
 
 abbrev bound : ℕ → List ℕ → Bound
 bound i ws = record { variable = i; words = ws }
@@ -25,7 +33,7 @@ counted-same : {X : Type 0} (f g : ℕ → X) (a n : ℕ) → ((k : ℕ) → a �
 counted-same f g a zero h = refl
 counted-same f g a (suc n) h = ap₂ (λ x xs. x ∷ xs) (h a (omega arith) (omega arith)) (counted-same f g (a + 1) n (λ k l m. h k (omega arith) (omega arith)))
 
-between-same : (xs ys : List ℕ) (i j c : ℕ) → take c xs ≡ take c ys → j ≤ c → between i j xs ≡ between i j ys
+pub between-same : (xs ys : List ℕ) (i j c : ℕ) → take c xs ≡ take c ys → j ≤ c → between i j xs ≡ between i j ys
 between-same xs ys i j c e h =
     between-is xs i j ∙ ap (drop i) (sym (take-take j c xs h) ∙ ap (take j) e ∙ take-take j c ys h) ∙ sym (between-is ys i j)
 
@@ -34,11 +42,14 @@ first-zero [] = refl
 first-zero (x ∷ xs) = refl
 
 pub filled-none : (b : Bindings) → Filled (cleared b) 0
-filled-none b = (omega arith, omega arith, first-zero (b .places), below)
+filled-none b = (omega arith, omega arith, first-zero (b .places), below, λ k h. absurd (omega arith))
   where
     below : (k : ℕ) → k ≤ 0 → getD (set (b .places) 0 0) k 0 ≤ 0
     below zero h = omega (arith, first-zero (b .places))
     below (suc k) h = absurd (omega arith)
+
+pub in-order : (b : Bindings) (c : ℕ) → Filled b c → In-order b
+in-order b c f = (f .0, λ k h. (f .4 k h, omega (arith, f .3 (k + 1) (omega arith))))
 
 module _ (b : Bindings) (terms : List ℕ) (c v e : ℕ) (few : b .count < limits.bindings) (places : length (b .places) ≡ limits.bindings + 1) (full : Filled b c) where
   abbrev more : Bindings
@@ -51,8 +62,15 @@ module _ (b : Bindings) (terms : List ℕ) (c v e : ℕ) (few : b .count < limit
   place-old k h = let ne : k ≢ b .count + 1 = omega arith in getD-set-other (b .places) (b .count + 1) k e 0 ne
 
   pub filled-push : c ≤ e → e ≤ limits.binding-words → Filled more e
-  filled-push up within = (omega arith, within, place-last, below)
+  filled-push up within = (omega arith, within, place-last, below, rising)
     where
+      rising : (k : ℕ) → k < b .count + 1 → getD (more .places) k 0 ≤ getD (more .places) (k + 1) 0
+      rising k h =
+          ⊎-elim
+          (λ (q : k ≡ b .count). subst (λ i. getD (more .places) i 0 ≤ getD (more .places) (i + 1) 0) (sym q) (omega (arith, place-old (b .count) (omega arith), full .2, place-last)))
+          (λ (q : k ≢ b .count). omega (arith, place-old k (omega arith), place-old (k + 1) (omega arith), full .4 k (omega arith)))
+          (cases-eq k (b .count))
+
       below : (k : ℕ) → k ≤ b .count + 1 → getD (more .places) k 0 ≤ e
       below k h = ⊎-elim (λ (q : k ≡ b .count + 1). subst (λ i. getD (more .places) i 0 ≤ e) (sym q) (omega (arith, place-last))) (λ (q : k ≢ b .count + 1). omega (arith, place-old k (omega arith), full .3 k (omega arith))) (cases-eq k (b .count + 1))
 

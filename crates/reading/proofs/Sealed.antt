@@ -29,7 +29,7 @@ use Rattle.reading.specs.Entering.{Met, Headed, head, known, meet, enter, new-
 use Rattle.reading.specs.Terms.{headed-state, with-rows, term}
 use Rattle.reading.specs.Clauses.{opening, clause, clause-from}
 use Rattle.reading.specs.Fixed.{Fixed}
-use Rattle.reading.specs.Bindings.{Bounds, binding-list, bindings-at}
+use Rattle.reading.specs.Bindings.{Bounds, blank, binding-list, bindings-at}
 use Rattle.reading.proofs.Keeping.{Safe, bind-safe, Any, Holds, term-safe}
 use Rattle.reading.proofs.Whole.{cond-safe, clause-safe, bindings-safe}
 
@@ -106,11 +106,11 @@ module _ (n : ℕ) (R : List SymbolRow → Type 0) where
     abbrev pub Bound-sealed : Bounds → Type 0
     Bound-sealed b = (b .symbols ≡ n) × R (b .rows)
 
-    pub bindings-sealed : (bs : List ℕ) (pos : ℕ) (out : List ℕ) (rows : List SymbolRow) → R rows → Safe Halted Bound-sealed (bindings-at bs pos out n rows)
-    bindings-sealed bs pos out rows r =
-        cond-safe Halted Bound-sealed (exceeds n rows) (Err (halt Count n rows)) (lift n rows (opening bs pos) >>= λ i. binding-list bs (limits.bindings + 1) [] (record { purpose = Binding; pos = i; count = 0; out = out; symbols = n; rows = rows })) (refl, r)
+    pub bindings-sealed : (bs : List ℕ) (pos : ℕ) (rows : List SymbolRow) → R rows → Safe Halted Bound-sealed (bindings-at bs pos n rows)
+    bindings-sealed bs pos rows r =
+        cond-safe Halted Bound-sealed (exceeds n rows) (Err (halt Count n rows)) (lift n rows (opening bs pos) >>= λ i. binding-list bs (limits.bindings + 1) [] (record { purpose = Binding; pos = i; count = 0; out = blank; symbols = n; rows = rows })) (refl, r)
         (bind-safe Halted Any Bound-sealed (lift n rows (opening bs pos)) _ (lift-sealed n rows (opening bs pos) refl r) (λ i _.
-        bindings-safe Sealed Halted (λ s. s < n) (λ st f g. (g .1, g .2)) (λ st e g. g) (λ st e w g. g) heads settles bs Bound-sealed (λ b e st g. (g .1, g .2)) (limits.bindings + 1) [] (record { purpose = Binding; pos = i; count = 0; out = out; symbols = n; rows = rows }) (refl, refl, r)))
+        bindings-safe Sealed Halted (λ s. s < n) (λ st f g. (g .1, g .2)) (λ st e g. g) (λ st e w g. g) heads settles bs Bound-sealed (λ b e st g. (g .1, g .2)) (limits.bindings + 1) [] (record { purpose = Binding; pos = i; count = 0; out = blank; symbols = n; rows = rows }) (refl, refl, r)))
 
 -- whatever the rows are
 pub settle-any : (n : ℕ) (rows : List SymbolRow) (s given at : ℕ) → s < n → Unit {0} → Holds Any (settle rows s given at)

@@ -2,9 +2,9 @@
 use mathlib.Core.Path.{_≡_}
 use mathlib.Core.Bool.{Bool, cond}
 use mathlib.Core.List.{List, [], _∷_, _++_, map}
-use Prim.Native.Nat.{ℕ, zero, suc, _+_, _≤_}
+use Prim.Native.Nat.{ℕ, zero, suc, _+_, _<_, _≤_}
 use lib.Dec.{eqb}
-use lib.ListN.{length, getD, set}
+use lib.ListN.{getD, set, replicate}
 use Rattle.std.specs.Holes.{between}
 use Rattle.std.specs.Iters.{counting}
 use Rattle.std.specs.declared.result.Result.{Result}
@@ -62,18 +62,20 @@ held-at b k = record { variable = getD (b .variables) k 0; words = between (getD
 abbrev pub held : Bindings → List Bound
 held b = map (held-at b) (counting 0 (b .count))
 
+-- places in order and within the store, so that the words of each binding can be taken
+abbrev pub In-order : Bindings → Type 0
+In-order b =
+    (b .count ≤ limits.bindings)
+    × ((k : ℕ) → k < b .count → (getD (b .places) k 0 ≤ getD (b .places) (k + 1) 0) × (getD (b .places) (k + 1) 0 ≤ limits.binding-words))
+
 -- the terms have c words together
 abbrev pub Filled : Bindings → ℕ → Type 0
 Filled b c =
     (b .count ≤ limits.bindings) × (c ≤ limits.binding-words) × (getD (b .places) (b .count) 0 ≡ c)
     × ((k : ℕ) → k ≤ b .count → getD (b .places) k 0 ≤ c)
+    × ((k : ℕ) → k < b .count → getD (b .places) k 0 ≤ getD (b .places) (k + 1) 0)
 
-abbrev pub cleared : Bindings → Bindings
-cleared b = record { variables = b .variables; places = set (b .places) 0 0; terms = b .terms; count = 0 }
-
-abbrev pub with-terms : Bindings → List ℕ → Bindings
-with-terms b terms = record { variables = b .variables; places = b .places; terms = terms; count = b .count }
-
+-- one binding more, whose term ends at `end`
 abbrev pub pushed : Bindings → ℕ → ℕ → Bindings
 pushed b v end =
     record { variables = set (b .variables) (b .count) v; places = set (b .places) (b .count + 1) end; terms = b .terms; count = b .count + 1 }
@@ -91,6 +93,10 @@ abbrev pub binding-turn : (State → Result (Bound × State) Halt) → (List Bou
 binding-turn one rest done st (Closed e) = Ok (record { bound = done; end = e; symbols = st .symbols; rows = st .rows })
 binding-turn one rest done st (Opened e) = one (moved st e) >>= λ p. rest (done ++ p .0 ∷ []) (p .1)
 
+-- a store for the words of terms
+unfoldable pub blank : List ℕ
+blank = replicate limits.binding-words 0
+
 module _ (bs : List ℕ) where
   -- a binding behind its opening bracket
   unfoldable pub binding : State → Result (Bound × State) Halt
@@ -105,9 +111,9 @@ module _ (bs : List ℕ) where
   binding-list zero done st = Ok (record { bound = done; end = st .pos; symbols = st .symbols; rows = st .rows })
   binding-list (suc left) done st = from st (binding-mark bs (eqb left 0) (st .pos)) >>= binding-turn binding (binding-list left) done st
 
-  -- the bracketed list of bindings from a place on, whose words go to a store of their own; the count of symbols must not exceed their store
-  abbrev pub bindings-at : ℕ → List ℕ → ℕ → List SymbolRow → Result Bounds Halt
-  bindings-at pos out n rows =
+  -- the bracketed list of bindings from a place on; the count of symbols must not exceed their store
+  abbrev pub bindings-at : ℕ → ℕ → List SymbolRow → Result Bounds Halt
+  bindings-at pos n rows =
       cond (exceeds n rows) (Err (halt Count n rows))
       (lift n rows (opening bs pos) >>= λ i.
-      binding-list (limits.bindings + 1) [] (record { purpose = Binding; pos = i; count = 0; out = out; symbols = n; rows = rows }))
+      binding-list (limits.bindings + 1) [] (record { purpose = Binding; pos = i; count = 0; out = blank; symbols = n; rows = rows }))

@@ -8,7 +8,7 @@ ghost use Rattle.reading.specs.declared.cursor.Purpose.the-variants.{Binding};
 ghost use Rattle.reading.specs.Limits.{bindings as most-bindings, binding-words};
 ghost use Rattle.reading.specs.States.{state};
 ghost use Rattle.reading.specs.Clauses.{Mark-on, Is-closed};
-ghost use Rattle.reading.specs.Bindings.{variable-at, binding-mark, after-binding, binding as bindingOf, Filled, held, cleared, pushed, after-bindings, binding-list, bindings-at};
+ghost use Rattle.reading.specs.Bindings.{variable-at, binding-mark, after-binding, binding as bindingOf, In-order, Filled, held, pushed, after-bindings, binding-list, bindings-at};
 use crate::clause::ROOM;
 use crate::cursor::BINDING_WORDS;
 use crate::cursor::Cursor;
@@ -117,14 +117,6 @@ fn binding(
     })
 }
 
-/// No binding.
-fn clear(bindings: &mut Bindings)
-    ensures { λ _. ⌜ now (bindings .exit) ≡ cleared (now (bindings .entry)) ⌝ }
-{
-    bindings.places[0] = 0;
-    bindings.count = 0;
-}
-
 /// One binding more, whose term ends at `end`.
 fn push(bindings: &mut Bindings, variable: u32, end: usize)
     requires { ⌜ (now bindings .count < most-bindings) × (end ≤ binding-words) ⌝ }
@@ -147,7 +139,8 @@ fn binding_list(
     requires purpose { ⌜ from .purpose ≡ Binding ⌝ }
     requires filled { ⌜ Filled (now bindings) (from .count) ⌝ }
     requires within { ⌜ (from .count ≤ from .pos) × (now symbols ≤ length (now rows)) × (now symbols ≤ 256) ⌝ }
-    ensures { λ r. ⌜ after-bindings r (now (bindings .exit)) (now (symbols .exit)) (now (rows .exit)) ≡ binding-list (now (line .entry)) (most-bindings + 1 - now (bindings .entry) .count) (held (now (bindings .entry))) (state from (now (bindings .entry) .terms) (now (symbols .entry)) (now (rows .entry))) ⌝ }
+    ensures is { λ r. ⌜ after-bindings r (now (bindings .exit)) (now (symbols .exit)) (now (rows .exit)) ≡ binding-list (now (line .entry)) (most-bindings + 1 - now (bindings .entry) .count) (held (now (bindings .entry))) (state from (now (bindings .entry) .terms) (now (symbols .entry)) (now (rows .entry))) ⌝ }
+    ensures ordered { λ r. ⌜ made r (λ _. In-order (now (bindings .exit))) ⌝ }
 {
     match read_mark(line, from.pos, bindings.count)? {
         Mark::Closed(end) => Ok(end),
@@ -168,11 +161,13 @@ pub fn read_bindings(
     bindings: &mut Bindings,
     from: usize,
 ) -> Result<usize, Fault>
-    ensures { λ r. ⌜ after-bindings r (now (bindings .exit)) (now (symbols .exit)) (now (rows .exit)) ≡ bindings-at (now (line .entry)) from (now (bindings .entry) .terms) (now (symbols .entry)) (now (rows .entry)) ⌝ }
+    ensures is { λ r. ⌜ after-bindings r (now (bindings .exit)) (now (symbols .exit)) (now (rows .exit)) ≡ bindings-at (now (line .entry)) from (now (symbols .entry)) (now (rows .entry)) ⌝ }
+    ensures ordered { λ r. ⌜ made r (λ _. In-order (now (bindings .exit))) ⌝ }
 {
     check_count(rows, *symbols)?;
     let inner = open(line, from)?;
-    clear(bindings);
+    bindings.places[0] = 0;
+    bindings.count = 0;
     let start = Cursor {
         purpose: Purpose::Binding,
         pos: inner,

@@ -8,8 +8,10 @@ mod term;
 
 pub use bindings::BINDINGS;
 pub use bindings::Bindings;
+pub use bindings::PLACES;
 pub use bindings::read_bindings;
 pub use clause::read_clause;
+pub use cursor::BINDING_WORDS;
 pub use cursor::Cursor;
 pub use cursor::Purpose;
 pub use cursor::check_count;

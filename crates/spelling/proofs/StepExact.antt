@@ -58,10 +58,10 @@ cited-goes bs shapes p k i a e f g =
     ∙ ap (λ z. z then λ y. few-at bs (k .shape .literals) (y .end) then λ w. Ok (record { keyword = k; premises = y; literals = w })) f
     ∙ ap (λ z. z then λ w. Ok (record { keyword = k; premises = i; literals = w })) g
 
-reason-goes : (bs : List ℕ) (shapes : Table) (p : ℕ) (terms : List ℕ) (n : ℕ) (rows : List SymbolRow) (o : ℕ) (c : Citation) (q : List ℕ × ℕ) (b : Bounds) (e : ℕ)
+reason-goes : (bs : List ℕ) (shapes : Table) (p n : ℕ) (rows : List SymbolRow) (o : ℕ) (c : Citation) (q : List ℕ × ℕ) (b : Bounds) (e : ℕ)
     → lift n rows (opening bs p) ≡ Ok o → cited-at bs shapes o ≡ Ok c → position-part bs (c .keyword .shape .position) (c .literals .end) ≡ Ok q
-    → bindings-part bs (c .keyword .shape .bindings) (q .1) terms n rows ≡ Ok b → lift (b .symbols) (b .rows) (closing bs (b .end)) ≡ Ok e
-    → justification-at bs shapes p terms n rows
+    → bindings-part bs (c .keyword .shape .bindings) (q .1) n rows ≡ Ok b → lift (b .symbols) (b .rows) (closing bs (b .end)) ≡ Ok e
+    → justification-at bs shapes p n rows
     ≡ Ok (record {
       keyword = record { run = c .keyword .run; shape = c .keyword .shape; end = e };
       premises = asked (c .keyword .shape .premises) (c .premises .numbers);
@@ -72,31 +72,31 @@ reason-goes : (bs : List ℕ) (shapes : Table) (p : ℕ) (terms : List ℕ) (n :
       rows = b .rows;
     })
 unfolding justification-at
-reason-goes bs shapes p terms n rows o c q b e f g h i k =
+reason-goes bs shapes p n rows o c q b e f g h i k =
     let last : Citation → List ℕ × ℕ → Bounds → ℕ → Result Justified Halt = λ c q b e. Ok (record { keyword = record { run = c .keyword .run; shape = c .keyword .shape; end = e }; premises = asked (c .keyword .shape .premises) (c .premises .numbers); literals = asked (c .keyword .shape .literals) (c .literals .numbers); position = q .0; bound = b .bound; symbols = b .symbols; rows = b .rows }) in
-    ap (λ z. z >>= λ o. lift n rows (cited-at bs shapes o) >>= λ c. lift n rows (position-part bs (c .keyword .shape .position) (c .literals .end)) >>= λ q. bindings-part bs (c .keyword .shape .bindings) (q .1) terms n rows >>= λ b. lift (b .symbols) (b .rows) (closing bs (b .end)) >>= last c q b) f
-    ∙ ap (λ z. lift n rows z >>= λ c. lift n rows (position-part bs (c .keyword .shape .position) (c .literals .end)) >>= λ q. bindings-part bs (c .keyword .shape .bindings) (q .1) terms n rows >>= λ b. lift (b .symbols) (b .rows) (closing bs (b .end)) >>= last c q b) g
-    ∙ ap (λ z. lift n rows z >>= λ q. bindings-part bs (c .keyword .shape .bindings) (q .1) terms n rows >>= λ b. lift (b .symbols) (b .rows) (closing bs (b .end)) >>= last c q b) h
+    ap (λ z. z >>= λ o. lift n rows (cited-at bs shapes o) >>= λ c. lift n rows (position-part bs (c .keyword .shape .position) (c .literals .end)) >>= λ q. bindings-part bs (c .keyword .shape .bindings) (q .1) n rows >>= λ b. lift (b .symbols) (b .rows) (closing bs (b .end)) >>= last c q b) f
+    ∙ ap (λ z. lift n rows z >>= λ c. lift n rows (position-part bs (c .keyword .shape .position) (c .literals .end)) >>= λ q. bindings-part bs (c .keyword .shape .bindings) (q .1) n rows >>= λ b. lift (b .symbols) (b .rows) (closing bs (b .end)) >>= last c q b) g
+    ∙ ap (λ z. lift n rows z >>= λ q. bindings-part bs (c .keyword .shape .bindings) (q .1) n rows >>= λ b. lift (b .symbols) (b .rows) (closing bs (b .end)) >>= last c q b) h
     ∙ ap (λ z. z >>= λ b. lift (b .symbols) (b .rows) (closing bs (b .end)) >>= last c q b) i
     ∙ ap (λ z. z >>= last c q b) k
 
-module _ (bs : List ℕ) (shapes : Table) (terms : List ℕ) (n : ℕ) (rows : List SymbolRow) (counted : Counted n rows) (room : 512 ≤ length terms) where
+module _ (bs : List ℕ) (shapes : Table) (n : ℕ) (rows : List SymbolRow) (counted : Counted n rows) where
   abbrev kept : Reason → ℕ → Justified
-  kept r e = kept-reason bs shapes terms n rows (counted .settled) (counted .room) room r e
+  kept r e = kept-reason bs shapes n rows (counted .settled) (counted .room) r e
 
   reason-done : {r : Reason} {ts us : List Tok} → Spells-reason (take n rows) shapes r ts us → (p : ℕ) → Tokens bs p ts
-      → (e : ℕ) × (justification-at bs shapes p terms n rows ≡ Ok (kept r e)) × Tokens bs e us
+      → (e : ℕ) × (justification-at bs shapes p n rows ≡ Ok (kept r e)) × Tokens bs e us
   reason-done (a-reason {r = r} {ts₁ = ts₁} {us = us} name shaped-as many premises few literals position bindings) p there =
       let o = first-token bs p (opens ∷ word (r .keyword) ∷ ts₁) there in
       let w = first-token bs (o .0 .end) (word (r .keyword) ∷ ts₁) (o .3) in
       let i = few-goes bs (r .shape .premises) premises (w .0 .end) many (w .3) in
       let a = few-goes bs (r .shape .literals) literals (i .0 .end) few (i .3) in
       let q = position-goes bs position (a .0 .end) (a .3) in
-      let b = bounds-go bs n rows counted bindings (q .0) terms room (q .2) in
+      let b = bounds-go bs n rows counted bindings (q .0) (q .2) in
       let x = first-token bs (b .0 .end) (closes ∷ us) (b .3) in
-      let at = bounds-sealed bs n rows (counted .settled) (r .shape .bindings) (q .0) terms (b .0) (b .1) in (
+      let at = bounds-sealed bs n rows (counted .settled) (r .shape .bindings) (q .0) (b .0) (b .1) in (
         x .0 .end,
-        reason-goes bs shapes p terms n rows (o .0 .end) (record { keyword = record { run = r .keyword; shape = r .shape; end = w .0 .end }; premises = i .0; literals = a .0 }) (r .position, q .0)
+        reason-goes bs shapes p n rows (o .0 .end) (record { keyword = record { run = r .keyword; shape = r .shape; end = w .0 .end }; premises = i .0; literals = a .0 }) (r .position, q .0)
             (b .0) (x .0 .end) (opening-goes bs (start Step p [] n rows) p (o .0) (o .1) (o .2))
             (cited-goes bs shapes (o .0 .end) (record { run = r .keyword; shape = r .shape; end = w .0 .end }) (i .0) (a .0)
             (keyword-goes bs shapes (o .0 .end) (w .0) (r .keyword) (r .shape) (w .1) (w .2) name shaped-as) (i .1) (a .1)) (q .1) (b .1)
@@ -115,16 +115,16 @@ module _ (bs : List ℕ) (shapes : Table) (terms : List ℕ) (n : ℕ) (rows : L
   -- ── The line ──
 
   text-goes : (out : List ℕ) (o w c : ℕ) (m : Numbered) (j : Justified) (st : State) → lift n rows (opening bs 0) ≡ Ok o → lift n rows (wording (codes "step") bs o) ≡ Ok w
-      → step-number bs w ≡ Ok m → justification-at bs shapes (m .end) terms n rows ≡ Ok j → clause-from bs Step (j .keyword .end) out (j .symbols) (j .rows) ≡ Ok st
+      → step-number bs w ≡ Ok m → justification-at bs shapes (m .end) n rows ≡ Ok j → clause-from bs Step (j .keyword .end) out (j .symbols) (j .rows) ≡ Ok st
       → from st (closing bs (st .pos)) ≡ Ok c → line-end bs c ≡ Ok tt
-      → step-text bs shapes terms out n rows ≡ Ok (stepped (o - 1) (m .number) j (st .count) (st .out) (st .symbols) (st .rows))
+      → step-text bs shapes out n rows ≡ Ok (stepped (o - 1) (m .number) j (st .count) (st .out) (st .symbols) (st .rows))
   unfolding step-text
   text-goes out o w c m j st f g h i k q d =
       let last : ℕ → Numbered → Justified → State → Unit → Result Stepped Halt = λ o m j st u. Ok (stepped (o - 1) (m .number) j (st .count) (st .out) (st .symbols) (st .rows)) in
       let rest : ℕ → Numbered → Justified → State → Result Stepped Halt = λ o m j st. from st (closing bs (st .pos)) >>= λ c. from st (line-end bs c) >>= last o m j st in
-      ap (λ z. z >>= λ o. lift n rows (wording (codes "step") bs o) >>= λ w. lift n rows (step-number bs w) >>= λ m. justification-at bs shapes (m .end) terms n rows >>= λ j. clause-from bs Step (j .keyword .end) out (j .symbols) (j .rows) >>= rest o m j) f
-      ∙ ap (λ z. z >>= λ w. lift n rows (step-number bs w) >>= λ m. justification-at bs shapes (m .end) terms n rows >>= λ j. clause-from bs Step (j .keyword .end) out (j .symbols) (j .rows) >>= rest o m j) g
-      ∙ ap (λ z. lift n rows z >>= λ m. justification-at bs shapes (m .end) terms n rows >>= λ j. clause-from bs Step (j .keyword .end) out (j .symbols) (j .rows) >>= rest o m j) h
+      ap (λ z. z >>= λ o. lift n rows (wording (codes "step") bs o) >>= λ w. lift n rows (step-number bs w) >>= λ m. justification-at bs shapes (m .end) n rows >>= λ j. clause-from bs Step (j .keyword .end) out (j .symbols) (j .rows) >>= rest o m j) f
+      ∙ ap (λ z. z >>= λ w. lift n rows (step-number bs w) >>= λ m. justification-at bs shapes (m .end) n rows >>= λ j. clause-from bs Step (j .keyword .end) out (j .symbols) (j .rows) >>= rest o m j) g
+      ∙ ap (λ z. lift n rows z >>= λ m. justification-at bs shapes (m .end) n rows >>= λ j. clause-from bs Step (j .keyword .end) out (j .symbols) (j .rows) >>= rest o m j) h
       ∙ ap (λ z. z >>= λ j. clause-from bs Step (j .keyword .end) out (j .symbols) (j .rows) >>= rest o m j) i
       ∙ ap (λ z. z >>= rest o m j) k
       ∙ ap (λ z. z >>= λ c. from st (line-end bs c) >>= last o m j st) q
@@ -134,7 +134,7 @@ module _ (bs : List ℕ) (shapes : Table) (terms : List ℕ) (n : ℕ) (rows : L
     opened : Lexed
     first : lex bs 0 ≡ Ok opened
     is : opened .tok ≡ opens
-    goes : step-text bs shapes terms out n rows ≡ Ok (stepped (opened .end - 1) step (kept reason 0) (length (clause-words c)) (stored out (clause-words c)) n rows)
+    goes : step-text bs shapes out n rows ≡ Ok (stepped (opened .end - 1) step (kept reason 0) (length (clause-words c)) (stored out (clause-words c)) n rows)
 
   -- the rows behind the clause
   clause-rows : (p : ℕ) (out : List ℕ) (c : Clause) (d : Done bs Step n (take n rows) (sealed-final bs n rows counted) (clause bs) (start Step p out n rows) (clause-words c) (closes ∷ []) (length (take n rows)))
@@ -171,14 +171,14 @@ module _ (bs : List ℕ) (shapes : Table) (terms : List ℕ) (n : ℕ) (rows : L
       }
 
   -- the check of the count is passed
-  checked : (out : List ℕ) → step-line bs shapes terms out n rows ≡ step-text bs shapes terms out n rows
-  checked out = ap (λ z. lift n rows (cond z (Err Count) (Ok tt)) >>= λ u. step-text bs shapes terms out n rows) (not-exceeding n rows (counted .room) (counted .few))
+  checked : (out : List ℕ) → step-line bs shapes out n rows ≡ step-text bs shapes out n rows
+  checked out = ap (λ z. lift n rows (cond z (Err Count) (Ok tt)) >>= λ u. step-text bs shapes out n rows) (not-exceeding n rows (counted .room) (counted .few))
 
-  read-is-spelled : (out : List ℕ) (l : Stepped) → step-line bs shapes terms out n rows ≡ Ok l
+  read-is-spelled : (out : List ℕ) (l : Stepped) → step-line bs shapes out n rows ≡ Ok l
       → (step : ℕ) × (reason : Reason) × (c : Clause) × Spells-step-line bs shapes n rows step reason c × (l ≡ step-read bs out n rows step reason c)
-  read-is-spelled out l e = go (read-step bs shapes terms n rows (counted .settled) (counted .room) room out l (sym (checked out) ∙ e))
+  read-is-spelled out l e = go (read-step bs shapes n rows (counted .settled) (counted .room) out l (sym (checked out) ∙ e))
     where
-      go : Step-read bs shapes terms n rows (counted .settled) (counted .room) room out l
+      go : Step-read bs shapes n rows (counted .settled) (counted .room) out l
           → (step : ℕ) × (reason : Reason) × (c : Clause) × Spells-step-line bs shapes n rows step reason c × (l ≡ step-read bs out n rows step reason c)
       go q = (
         l .number,
@@ -191,18 +191,18 @@ module _ (bs : List ℕ) (shapes : Table) (terms : List ℕ) (n : ℕ) (rows : L
       )
 
   spelled-is-read : (out : List ℕ) (l : Stepped) (step : ℕ) (reason : Reason) (c : Clause) → Spells-step-line bs shapes n rows step reason c → l ≡ step-read bs out n rows step reason c
-      → step-line bs shapes terms out n rows ≡ Ok l
+      → step-line bs shapes out n rows ≡ Ok l
   spelled-is-read out l step reason c s e = go (step-done (s .spelled) out (spaced-tokens bs (s .spaced) 0 refl))
     where
-      go : Step-done out step reason c → step-line bs shapes terms out n rows ≡ Ok l
+      go : Step-done out step reason c → step-line bs shapes out n rows ≡ Ok l
       go d =
           checked out ∙ d .goes
           ∙ ap (λ p. Ok (stepped p step (kept reason 0) (length (clause-words c)) (stored out (clause-words c)) n rows)) (bracket-place bs (d .opened) (d .first) (d .is))
           ∙ ap Ok (sym e)
 
 pub steps-are-read-as-spelled : Steps-are-read-as-spelled
-steps-are-read-as-spelled line shapes terms out n rows counted room r =
-    (read-is-spelled line shapes terms n rows counted room out r, spelled-is-read line shapes terms n rows counted room out r)
+steps-are-read-as-spelled line shapes out n rows counted r =
+    (read-is-spelled line shapes n rows counted out r, spelled-is-read line shapes n rows counted out r)
 
 clause-of : {table : List SymbolRow} {shapes : Table} {step : ℕ} {reason : Reason} {c : Clause} {ts : List Tok} → Spells-step table shapes step reason c ts
     → (us : List Tok) × (vs : List Tok) × Spells-clause table c us vs

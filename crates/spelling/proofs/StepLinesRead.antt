@@ -76,16 +76,16 @@ stepped-same p p′ q j j′ w w′ o o′ m m′ rs rs′ a b c d e f =
     ∙ ap (λ x. stepped p′ q j′ w′ o′ x rs) e ∙ ap (stepped p′ q j′ w′ o′ m′) f
 
 -- the symbols behind bindings, whatever follows
-pub bounds-sealed : (bs : List ℕ) (n : ℕ) (rows : List SymbolRow) → Settled n rows → (wanted : Bool) (p : ℕ) (terms : List ℕ) (r : Bounds)
-    → bindings-part bs wanted p terms n rows ≡ Ok r → (r .symbols ≡ n) × (r .rows ≡ rows)
-bounds-sealed bs n rows settled false p terms r e =
+pub bounds-sealed : (bs : List ℕ) (n : ℕ) (rows : List SymbolRow) → Settled n rows → (wanted : Bool) (p : ℕ) (r : Bounds)
+    → bindings-part bs wanted p n rows ≡ Ok r → (r .symbols ≡ n) × (r .rows ≡ rows)
+bounds-sealed bs n rows settled false p r e =
     let same : record { bound = []; end = p; symbols = n; rows = rows } ≡ r = ok-same e in
     (sym (ap (λ (x : Bounds). x .symbols) same), sym (ap (λ (x : Bounds). x .rows) same))
-bounds-sealed bs n rows settled true p terms r e =
+bounds-sealed bs n rows settled true p r e =
     subst (Safe (Halted n (λ rs. rs ≡ rows)) (Bound-sealed n (λ rs. rs ≡ rows) (settle-same n rows settled))) e
-    (bindings-sealed n (λ rs. rs ≡ rows) (settle-same n rows settled) bs p terms rows refl)
+    (bindings-sealed n (λ rs. rs ≡ rows) (settle-same n rows settled) bs p rows refl)
 
-module _ (bs : List ℕ) (shapes : Table) (terms : List ℕ) (n : ℕ) (rows : List SymbolRow) (settled : Settled n rows) (short : n ≤ length rows) (room : 512 ≤ length terms) where
+module _ (bs : List ℕ) (shapes : Table) (n : ℕ) (rows : List SymbolRow) (settled : Settled n rows) (short : n ≤ length rows) where
   abbrev table : List SymbolRow
   table = take n rows
 
@@ -99,7 +99,7 @@ module _ (bs : List ℕ) (shapes : Table) (terms : List ℕ) (n : ℕ) (rows : L
     position : List ℕ × ℕ
     position-is : position-part bs (cited .keyword .shape .position) (cited .literals .end) ≡ Ok position
     bounds : Bounds
-    bounds-are : bindings-part bs (cited .keyword .shape .bindings) (position .1) terms n rows ≡ Ok bounds
+    bounds-are : bindings-part bs (cited .keyword .shape .bindings) (position .1) n rows ≡ Ok bounds
     end : ℕ
     closed : Token-read bs (bounds .end) closes end
     same :
@@ -114,13 +114,13 @@ module _ (bs : List ℕ) (shapes : Table) (terms : List ℕ) (n : ℕ) (rows : L
         }
         ≡ j
 
-  reason-steps : (p : ℕ) (j : Justified) → justification-at bs shapes p terms n rows ≡ Ok j → Reason-steps p j
+  reason-steps : (p : ℕ) (j : Justified) → justification-at bs shapes p n rows ≡ Ok j → Reason-steps p j
   unfolding justification-at
   reason-steps p j e =
       let o = bind-ok (lift n rows (opening bs p)) _ j e in
       let c = bind-ok (lift n rows (cited-at bs shapes (o .0))) _ j (o .2) in
       let q = bind-ok (lift n rows (position-part bs (c .0 .keyword .shape .position) (c .0 .literals .end))) _ j (c .2) in
-      let b = bind-ok (bindings-part bs (c .0 .keyword .shape .bindings) (q .0 .1) terms n rows) _ j (q .2) in
+      let b = bind-ok (bindings-part bs (c .0 .keyword .shape .bindings) (q .0 .1) n rows) _ j (q .2) in
       let x = bind-ok (lift (b .0 .symbols) (b .0 .rows) (closing bs (b .0 .end))) _ j (b .2) in
       let parts = cited-ok bs shapes (o .0) (c .0) (lift-ok n rows (cited-at bs shapes (o .0)) (c .0) (c .1)) in
       record {
@@ -164,7 +164,7 @@ module _ (bs : List ℕ) (shapes : Table) (terms : List ℕ) (n : ℕ) (rows : L
   reason-at p j us s toks =
       let close = token-there bs (s .bounds .end) closes (s .end) us (s .closed) (subst (λ (x : Justified). Tokens bs (x .keyword .end) us) (sym (s .same)) toks) in
       let b : Bounds-read bs n rows settled short (s .cited .keyword .shape .bindings) (s .position .1) (s .bounds) (closes ∷ us) =
-      bounds-read bs n rows settled short (s .cited .keyword .shape .bindings) (s .position .1) terms (s .bounds) (closes ∷ us) room (s .bounds-are) close in
+      bounds-read bs n rows settled short (s .cited .keyword .shape .bindings) (s .position .1) (s .bounds) (closes ∷ us) (s .bounds-are) close in
       let q = position-read bs (s .cited .keyword .shape .position) (s .cited .literals .end) (s .position) (b .toks) (b .there) (s .position-is) in
       let a = few-read bs (s .cited .premises .end) (q .0) (s .cited .keyword .shape .literals) (s .cited .literals) (q .2) (s .literals-are) in
       let i = few-read bs (s .cited .keyword .end) (a .0) (s .cited .keyword .shape .premises) (s .cited .premises) (a .3) (s .premises-are) in
@@ -191,16 +191,16 @@ module _ (bs : List ℕ) (shapes : Table) (terms : List ℕ) (n : ℕ) (rows : L
             (b .all) (b .symbols) (b .rows-are);
       })
 
-  reason-read : (p : ℕ) (j : Justified) (us : List Tok) → justification-at bs shapes p terms n rows ≡ Ok j → Tokens bs (j .keyword .end) us → Reason-read p j us
+  reason-read : (p : ℕ) (j : Justified) (us : List Tok) → justification-at bs shapes p n rows ≡ Ok j → Tokens bs (j .keyword .end) us → Reason-read p j us
   reason-read p j us e toks = reason-at p j us (reason-steps p j e) toks
 
   -- the symbols behind a justification, whatever follows
-  reason-symbols : (p : ℕ) (j : Justified) → justification-at bs shapes p terms n rows ≡ Ok j → (j .symbols ≡ n) × (j .rows ≡ rows)
+  reason-symbols : (p : ℕ) (j : Justified) → justification-at bs shapes p n rows ≡ Ok j → (j .symbols ≡ n) × (j .rows ≡ rows)
   reason-symbols p j e = go (reason-steps p j e)
     where
       go : Reason-steps p j → (j .symbols ≡ n) × (j .rows ≡ rows)
       go s =
-          let b = bounds-sealed bs n rows settled (s .cited .keyword .shape .bindings) (s .position .1) terms (s .bounds) (s .bounds-are) in
+          let b = bounds-sealed bs n rows settled (s .cited .keyword .shape .bindings) (s .position .1) (s .bounds) (s .bounds-are) in
           (sym (ap (λ (x : Justified). x .symbols) (s .same)) ∙ b .0, sym (ap (λ (x : Justified). x .rows) (s .same)) ∙ b .1)
 
   -- ── The line ──
@@ -232,7 +232,7 @@ module _ (bs : List ℕ) (shapes : Table) (terms : List ℕ) (n : ℕ) (rows : L
         }
 
   step-by : (out : List ℕ) (l : Stepped) (o w c : ℕ) (m : Numbered) (j : Justified) (st : State) → Token-read bs 0 opens o → Token-read bs o (word (codes "step")) w
-      → Number-read bs w m × (0 < m .number) → justification-at bs shapes (m .end) terms n rows ≡ Ok j → (j .symbols ≡ n) × (j .rows ≡ rows)
+      → Number-read bs w m × (0 < m .number) → justification-at bs shapes (m .end) n rows ≡ Ok j → (j .symbols ≡ n) × (j .rows ≡ rows)
       → Clause-read bs (start Step (j .keyword .end) out (j .symbols) (j .rows)) st (closes ∷ []) → Token-read bs (st .pos) closes c → Tokens bs c []
       → record {
         place = o - 1;
@@ -271,13 +271,13 @@ module _ (bs : List ℕ) (shapes : Table) (terms : List ℕ) (n : ℕ) (rows : L
             (pour out 0 (clause-words (r .read))) (st .symbols) n (st .rows) rows (ap (λ x. x - 1) (opened .on)) (z .is) (omega (arith, r .wrote .counted)) (r .wrote .poured) (at .0) (at .1);
       })
 
-  pub step-read : (out : List ℕ) (l : Stepped) → step-text bs shapes terms out n rows ≡ Ok l → Step-read out l
+  pub step-read : (out : List ℕ) (l : Stepped) → step-text bs shapes out n rows ≡ Ok l → Step-read out l
   unfolding step-text
   step-read out l e =
       let o = bind-ok (lift n rows (opening bs 0)) _ l e in
       let w = bind-ok (lift n rows (wording (codes "step") bs (o .0))) _ l (o .2) in
       let m = bind-ok (lift n rows (step-number bs (w .0))) _ l (w .2) in
-      let j = bind-ok (justification-at bs shapes (m .0 .end) terms n rows) _ l (m .2) in
+      let j = bind-ok (justification-at bs shapes (m .0 .end) n rows) _ l (m .2) in
       let st = bind-ok (clause-from bs Step (j .0 .keyword .end) out (j .0 .symbols) (j .0 .rows)) _ l (j .2) in
       let c = bind-ok (from (st .0) (closing bs (st .0 .pos))) _ l (st .2) in
       let f = bind-ok (from (st .0) (line-end bs (c .0))) _ l (c .2) in

@@ -4,7 +4,7 @@ use mathlib.Core.Bool.{Bool}
 use mathlib.Core.List.{List, [], _∷_, _++_, map}
 use Prim.Native.Nat.{ℕ, _+_, _≤_, _<_}
 use native.Mathlib.Omega.{arith}
-use lib.ListN.{length, take, replicate, length-replicate}
+use lib.ListN.{length, take, replicate}
 use Rattle.std.specs.shelf.Lists.{All}
 use Rattle.logic.specs.Syntax.{Term, Clause}
 use Rattle.logic.specs.Words.{term-words, clause-words}
@@ -66,19 +66,13 @@ reason-same : (k k′ : List ℕ) (s s′ : Shape) (p p′ l l′ q q′ : List 
     (record { keyword = k′; shape = s′; premises = p′; literals = l′; position = q′; bindings = b′ })
 reason-same k k′ s s′ p p′ l l′ q q′ b b′ e f g h i j = cc
 
--- a store of a given length
-long-store : (m : ℕ) → (xs : List ℕ) × (length xs ≡ m)
-long-store m = (replicate m 0, length-replicate m 0)
-
 module _ (line : List ℕ) (shapes : Table) (n : ℕ) (rows : List SymbolRow) (counted : Counted n rows) (step step′ : ℕ) (r r′ : Reason) (c c′ : Clause)
     (s : Spells-step-line line shapes n rows step r c) (s′ : Spells-step-line line shapes n rows step′ r′ c′) where
   one-reading : (k : ℕ) → step-read line (replicate k 0) n rows step r c ≡ step-read line (replicate k 0) n rows step′ r′ c′
   one-reading k =
-      let t = long-store 512 in
-      let long : 512 ≤ length (t .0) = omega (arith, t .1) in
       ok-same
-      (sym (steps-are-read-as-spelled line shapes (t .0) (replicate k 0) n rows counted long (step-read line (replicate k 0) n rows step r c) .1 step r c s refl)
-      ∙ steps-are-read-as-spelled line shapes (t .0) (replicate k 0) n rows counted long (step-read line (replicate k 0) n rows step′ r′ c′) .1 step′ r′ c′ s′ refl)
+      (sym (steps-are-read-as-spelled line shapes (replicate k 0) n rows counted (step-read line (replicate k 0) n rows step r c) .1 step r c s refl)
+      ∙ steps-are-read-as-spelled line shapes (replicate k 0) n rows counted (step-read line (replicate k 0) n rows step′ r′ c′) .1 step′ r′ c′ s′ refl)
 
   one-list : clause-words c ≡ clause-words c′
   one-list =

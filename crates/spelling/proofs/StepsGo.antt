@@ -29,7 +29,8 @@ use Rattle.reading.specs.declared.bindings.Found.{Found}
 use Rattle.reading.specs.States.{State, Halt, halt, _>>=_, _then_, lift, from, moved, enters, full, exceeds, count-checked}
 use Rattle.reading.specs.Terms.{term}
 use Rattle.reading.specs.Clauses.{opening, closing, wording, clause, clause-from, marked}
-use Rattle.reading.specs.Bindings.{Bound, Bounds, variable-due, variable-at, binding-mark, binding-turn, binding, binding-list, bindings-at}
+use Rattle.reading.proofs.Blind.{length-blank}
+use Rattle.reading.specs.Bindings.{Bound, Bounds, blank, variable-due, variable-at, binding-mark, binding-turn, binding, binding-list, bindings-at}
 use Rattle.lines.specs.Justifications.{bindings-part}
 use Rattle.spelling.specs.Appearance.{term-symbols, Appear}
 use Rattle.spelling.specs.Grammar.{Variable-run, Spells-term}
@@ -184,16 +185,16 @@ module _ (bs : List ℕ) (n : ℕ) (rows : List SymbolRow) (counted : Counted n 
         z .3,
       )
 
-  pub bounds-go : {wanted : Bool} {xs : List Binding} {ts us : List Tok} → Spells-binding-list table wanted xs ts us → (p : ℕ) (terms : List ℕ) → 512 ≤ length terms → Tokens bs p ts
-      → (r : Bounds) × (bindings-part bs wanted p terms n rows ≡ Ok r) × (r .bound ≡ map kept-binding xs) × Tokens bs (r .end) us
-  bounds-go (no-list) p terms long there = (record { bound = []; end = p; symbols = n; rows = rows }, refl, refl, there)
-  bounds-go (a-list {bs = xs} {ts = ts} {us = us} few room inner) p terms long there =
+  pub bounds-go : {wanted : Bool} {xs : List Binding} {ts us : List Tok} → Spells-binding-list table wanted xs ts us → (p : ℕ) → Tokens bs p ts
+      → (r : Bounds) × (bindings-part bs wanted p n rows ≡ Ok r) × (r .bound ≡ map kept-binding xs) × Tokens bs (r .end) us
+  bounds-go (no-list) p there = (record { bound = []; end = p; symbols = n; rows = rows }, refl, refl, there)
+  bounds-go (a-list {bs = xs} {ts = ts} {us = us} few room inner) p there =
       let f = first-token bs p (opens ∷ ts) there in
-      let st : State = start for-bindings (f .0 .end) terms n rows in
-      let z = bindings-go inner 64 [] st us refl few (record { on = on-start for-bindings (f .0 .end) terms; all = sym table-long; room = omega (arith, room); long = long }) (f .3) in (
+      let st : State = start for-bindings (f .0 .end) blank n rows in
+      let z = bindings-go inner 64 [] st us refl few (record { on = on-start for-bindings (f .0 .end) blank; all = sym table-long; room = omega (arith, room); long = omega (arith, length-blank) }) (f .3) in (
         z .0,
-        cond-false (exceeds n rows) (Err (halt Count n rows)) (lift n rows (opening bs p) >>= λ i. binding-list bs 65 [] (start for-bindings i terms n rows)) (not-exceeding n rows (counted .room) (counted .few))
-            ∙ ap (λ y. y >>= λ i. binding-list bs 65 [] (start for-bindings i terms n rows)) (opening-goes bs st p (f .0) (f .1) (f .2)) ∙ z .1,
+        cond-false (exceeds n rows) (Err (halt Count n rows)) (lift n rows (opening bs p) >>= λ i. binding-list bs 65 [] (start for-bindings i blank n rows)) (not-exceeding n rows (counted .room) (counted .few))
+            ∙ ap (λ y. y >>= λ i. binding-list bs 65 [] (start for-bindings i blank n rows)) (opening-goes bs st p (f .0) (f .1) (f .2)) ∙ z .1,
         z .2,
         z .3,
       )

@@ -33,7 +33,8 @@ use Rattle.reading.specs.Entering.{Headed, head, settle}
 use Rattle.reading.specs.Terms.{headed-state, with-rows, term}
 use Rattle.reading.specs.Clauses.{opening, closing, clause}
 use Rattle.lines.specs.Justifications.{bindings-part}
-use Rattle.reading.specs.Bindings.{Bound, Bounds, variable-due, variable-at, binding-mark, binding-turn, binding, binding-list, bindings-at}
+use Rattle.reading.specs.Bindings.{Bound, Bounds, blank, variable-due, variable-at, binding-mark, binding-turn, binding, binding-list, bindings-at}
+use Rattle.reading.proofs.Blind.{length-blank}
 use Rattle.reading.proofs.Kept.{Words-kept, term-kept}
 use Rattle.reading.proofs.Keeping.{Safe, Any, term-safe}
 use Rattle.reading.proofs.Sealed.{Halted, Sealed, term-sealed, settle-same}
@@ -321,9 +322,9 @@ module _ (bs : List ℕ) (n : ℕ) (rows : List SymbolRow) (settled : Settled n 
     pub symbols : r .symbols ≡ n
     pub rows-are : r .rows ≡ rows
 
-  pub bounds-read : (wanted : Bool) (p : ℕ) (terms : List ℕ) (r : Bounds) (us : List Tok) → 512 ≤ length terms → bindings-part bs wanted p terms n rows ≡ Ok r → Tokens bs (r .end) us
+  pub bounds-read : (wanted : Bool) (p : ℕ) (r : Bounds) (us : List Tok) → bindings-part bs wanted p n rows ≡ Ok r → Tokens bs (r .end) us
       → Bounds-read wanted p r us
-  bounds-read false p terms r us room e toks =
+  bounds-read false p r us e toks =
       let same : record { bound = []; end = p; symbols = n; rows = rows } ≡ r = ok-same e in
       record {
         bindings = [];
@@ -334,11 +335,11 @@ module _ (bs : List ℕ) (n : ℕ) (rows : List SymbolRow) (settled : Settled n 
         symbols = sym (ap (λ (y : Bounds). y .symbols) same);
         rows-are = sym (ap (λ (y : Bounds). y .rows) same);
       }
-  bounds-read true p terms r us room e toks =
+  bounds-read true p r us e toks =
       let c = cond-ok (exceeds n rows) (halt Count n rows) _ r e in
       let o = bind-ok (lift n rows (opening bs p)) _ r (c .1) in
-      let st : State = start for-bindings (o .0) terms n rows in
-      let f : Filling st = record { at = (refl, refl); purpose = refl; few = omega arith; long = room } in
+      let st : State = start for-bindings (o .0) blank n rows in
+      let f : Filling st = record { at = (refl, refl); purpose = refl; few = omega arith; long = omega (arith, length-blank) } in
       let z = list-read 64 [] st r us f toks (o .2) in
       record {
         bindings = z .bindings;

@@ -1,7 +1,7 @@
 -- What a step line spells, and that reading finds exactly that.
 use mathlib.Core.Path.{_≡_}
 use mathlib.Core.List.{List, [], _∷_, map}
-use Prim.Native.Nat.{ℕ, _≤_}
+use Prim.Native.Nat.{ℕ}
 use lib.ListN.{length, take}
 use Rattle.std.specs.shelf.Lists.{leading}
 use Rattle.std.specs.declared.result.Result.the-variants.{Ok}
@@ -12,7 +12,6 @@ use Rattle.logic.specs.declared.row.SymbolRow.{SymbolRow}
 use Rattle.tokens.specs.declared.byte.Class.the-variants.{Space}
 use Rattle.tokens.specs.Bytes.{within}
 use Rattle.tokens.specs.Tokens.{Tok}
-use Rattle.reading.specs.Limits as reading
 use Rattle.reading.specs.Bindings.{Bound}
 use Rattle.lines.specs.Justifications.{Table}
 use Rattle.lines.specs.Steps.{Stepped, step-line}
@@ -49,15 +48,14 @@ step-read line out n rows number reason c =
       rows = rows;
     }
 
--- a line reads as a step exactly when it spells one, with that number, reason and clause; the store for the words of
--- bindings has to hold as many as there may be
+-- a line reads as a step exactly when it spells one, with that number, reason and clause
 abbrev pub Steps-are-read-as-spelled : Type 0
 Steps-are-read-as-spelled =
-    (line : List ℕ) (shapes : Table) (terms out : List ℕ) (n : ℕ) (rows : List SymbolRow) → Counted n rows → reading.binding-words ≤ length terms → (r : Stepped)
-    → (step-line line shapes terms out n rows ≡ Ok r
+    (line : List ℕ) (shapes : Table) (out : List ℕ) (n : ℕ) (rows : List SymbolRow) → Counted n rows → (r : Stepped)
+    → (step-line line shapes out n rows ≡ Ok r
     → (number : ℕ) × (reason : Reason) × (c : Clause) × Spells-step-line line shapes n rows number reason c × (r ≡ step-read line out n rows number reason c))
     × ((number : ℕ) (reason : Reason) (c : Clause) → Spells-step-line line shapes n rows number reason c → r ≡ step-read line out n rows number reason c
-    → step-line line shapes terms out n rows ≡ Ok r)
+    → step-line line shapes out n rows ≡ Ok r)
 
 -- two readings of one line agree
 abbrev pub Steps-are-spelled-one-way : Type 0

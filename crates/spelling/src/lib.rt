@@ -12,8 +12,7 @@ pub fn rules_are_read_as_spelled() -> u8
     0
 }
 
-/// States the same of step lines, of whatever answers keywords with shapes, where the store for the words of bindings
-/// holds as many as there may be.
+/// States the same of step lines, for whatever answers keywords with shapes; they leave the symbols as they are.
 pub fn steps_are_read_as_spelled() -> u8
     ensures exact { λ _. ⌜ Steps-are-read-as-spelled ⌝ }
     ensures unique { λ _. ⌜ Steps-are-spelled-one-way ⌝ }

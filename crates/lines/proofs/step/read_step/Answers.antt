@@ -6,6 +6,7 @@ pub returns : need.returns
 returns g c =
     record {
       is = search needs;
-      counted = step-counted _ _ _ _ _ _ (c .read-text .result) (c .read-text .last .justification) (c .read-text .last .out) (c .read-text .last .symbols) (c .read-text .last .rows) (c .read-text .ensures);
-      kept = step-kept _ _ _ _ _ _ (c .read-text .result) (c .read-text .last .justification) (c .read-text .last .out) (c .read-text .last .symbols) (c .read-text .last .rows) (c .read-text .ensures);
+      usable = c .read-text .ensures .usable;
+      counted = step-counted _ _ _ _ _ (c .read-text .result) (c .read-text .last .justification) (c .read-text .last .out) (c .read-text .last .symbols) (c .read-text .last .rows) (c .read-text .ensures .is);
+      kept = step-kept _ _ _ _ _ (c .read-text .result) (c .read-text .last .justification) (c .read-text .last .out) (c .read-text .last .symbols) (c .read-text .last .rows) (c .read-text .ensures .is);
     }

@@ -6,7 +6,7 @@ use lib.ListN.{length}
 use Rattle.reading.specs.Limits as limits
 use Rattle.reading.specs.States.{state}
 use Rattle.reading.specs.Bindings.{Filled, held}
-use Rattle.reading.proofs.Pushed.{bindings-turn, filled-push, held-push}
+use Rattle.reading.proofs.Pushed.{in-order, bindings-turn, filled-push, held-push}
 use Rattle.reading.proofs.bindings.+binding_list.Needs as need
 
 pub returns-in-Break-end : need.returns-in-Break-end
@@ -28,7 +28,8 @@ binding-list-requires t c κs =
     (search needs, (on .1, (subst (λ b. Filled b (c .in-Continue-pair .pair .at .count)) (sym (c .push .ensures)) more, search needs)))
 
 pub returns-in-Closed : need.returns-in-Closed
-returns-in-Closed t c = rw (bindings-turn (c .args .line .now) (c .args .bindings .now .count) (held (c .args .bindings .now)) (state (c .args .from) (c .args .bindings .now .terms) (c .args .symbols .now) (c .args .rows .now)) (c .pre .filled .0)) (search needs)
+returns-in-Closed t c =
+    let ordered = in-order (c .args .bindings .now) (c .args .from .count) (c .pre .filled) in rw (bindings-turn (c .args .line .now) (c .args .bindings .now .count) (held (c .args .bindings .now)) (state (c .args .from) (c .args .bindings .now .terms) (c .args .symbols .now) (c .args .rows .now)) (c .pre .filled .0)) (search needs)
 
 pub returns-in-Continue-pair : need.returns-in-Continue-pair
 returns-in-Continue-pair t c =
