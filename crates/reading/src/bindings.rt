@@ -4,6 +4,7 @@ ghost use Prim.Native.Nat.{_+_, _-_, _<_, _≤_};
 ghost use lib.Dec.{eqb};
 ghost use lib.ListN.{length, take};
 ghost use Rattle.std.specs.Vec.{made};
+ghost use Rattle.logic.specs.Limits.{symbols as most-symbols};
 ghost use Rattle.reading.specs.declared.cursor.Purpose.the-variants.{Binding};
 ghost use Rattle.reading.specs.Limits.{bindings as most-bindings, binding-words};
 ghost use Rattle.reading.specs.States.{state};
@@ -99,10 +100,10 @@ fn binding(
 ) -> Result<Pair, Fault>
     requires purpose { ⌜ from .purpose ≡ Binding ⌝ }
     requires few { ⌜ from .count ≤ binding-words ⌝ }
-    requires within { ⌜ (from .count ≤ from .pos) × (now symbols ≤ length (now rows)) × (now symbols ≤ 256) ⌝ }
+    requires within { ⌜ (from .count ≤ from .pos) × (now symbols ≤ length (now rows)) × (now symbols ≤ most-symbols) ⌝ }
     ensures is { λ r. ⌜ after-binding r (from .count) (now (terms .exit)) (now (symbols .exit)) (now (rows .exit)) ≡ bindingOf (now (line .entry)) (state from (now (terms .entry)) (now (symbols .entry)) (now (rows .entry))) ⌝ }
     ensures on { λ r. ⌜ made r (λ p. (p .at .count ≤ p .at .pos) × (p .at .purpose ≡ Binding) × (from .count ≤ p .at .count) × (p .at .count ≤ binding-words) × (take (from .count) (now (terms .exit)) ≡ take (from .count) (now (terms .entry)))) ⌝ }
-    ensures counted { λ r. ⌜ (now (symbols .exit) ≤ length (now (rows .entry))) × (now (symbols .exit) ≤ 256) × (now (symbols .entry) ≤ now (symbols .exit)) ⌝ }
+    ensures counted { λ r. ⌜ (now (symbols .exit) ≤ length (now (rows .entry))) × (now (symbols .exit) ≤ most-symbols) × (now (symbols .entry) ≤ now (symbols .exit)) ⌝ }
 {
     let found = read_variable(line, from.pos)?;
     let inner = Cursor {
@@ -138,7 +139,7 @@ fn binding_list(
 ) -> Result<usize, Fault>
     requires purpose { ⌜ from .purpose ≡ Binding ⌝ }
     requires filled { ⌜ Filled (now bindings) (from .count) ⌝ }
-    requires within { ⌜ (from .count ≤ from .pos) × (now symbols ≤ length (now rows)) × (now symbols ≤ 256) ⌝ }
+    requires within { ⌜ (from .count ≤ from .pos) × (now symbols ≤ length (now rows)) × (now symbols ≤ most-symbols) ⌝ }
     ensures is { λ r. ⌜ after-bindings r (now (bindings .exit)) (now (symbols .exit)) (now (rows .exit)) ≡ binding-list (now (line .entry)) (most-bindings + 1 - now (bindings .entry) .count) (held (now (bindings .entry))) (state from (now (bindings .entry) .terms) (now (symbols .entry)) (now (rows .entry))) ⌝ }
     ensures ordered { λ r. ⌜ made r (λ _. In-order (now (bindings .exit))) ⌝ }
 {

@@ -3,6 +3,8 @@ ghost use mathlib.Core.Path.{_≡_};
 ghost use Prim.Native.Nat.{_+_, _-_, _≤_};
 ghost use lib.ListN.{length};
 ghost use Rattle.std.specs.Vec.{made};
+ghost use Rattle.logic.specs.Limits.{literals as most-literals, symbols as most-symbols};
+ghost use Rattle.logic.specs.Words.{negation};
 ghost use Rattle.reading.specs.States.{state, after};
 ghost use Rattle.reading.specs.Clauses.{sides as sidesOf, atom as atomOf, negated as negatedOf, literal as literalOf, literal-list, clause-from};
 use crate::cursor::Cursor;
@@ -17,6 +19,7 @@ use crate::mark::word;
 use crate::term::Role;
 use crate::term::application;
 use crate::term::term;
+use logic::DEPTH;
 use logic::EQUALITY_WORD;
 use logic::Kind;
 use logic::NEGATION;
@@ -28,7 +31,7 @@ use tokens::next;
 use tokens::same;
 
 /// How deep a term may go.
-pub const ROOM: u32 = 32;
+pub const ROOM: u32 = DEPTH as u32;
 
 /// The two sides of an equation and its closing bracket.
 fn sides(
@@ -38,10 +41,10 @@ fn sides(
     out: &mut [u32],
     from: Cursor,
 ) -> Result<Cursor, Fault>
-    requires within { ⌜ (from .count ≤ from .pos) × (now symbols ≤ length (now rows)) × (now symbols ≤ 256) ⌝ }
+    requires within { ⌜ (from .count ≤ from .pos) × (now symbols ≤ length (now rows)) × (now symbols ≤ most-symbols) ⌝ }
     ensures is { λ r. ⌜ after r (now (out .exit)) (now (symbols .exit)) (now (rows .exit)) ≡ sidesOf (now (line .entry)) (state from (now (out .entry)) (now (symbols .entry)) (now (rows .entry))) ⌝ }
     ensures on { λ r. ⌜ made r (λ a. a .count ≤ a .pos) ⌝ }
-    ensures counted { λ r. ⌜ (now (symbols .exit) ≤ length (now (rows .entry))) × (now (symbols .exit) ≤ 256) × (now (symbols .entry) ≤ now (symbols .exit)) ⌝ }
+    ensures counted { λ r. ⌜ (now (symbols .exit) ≤ length (now (rows .entry))) × (now (symbols .exit) ≤ most-symbols) × (now (symbols .entry) ≤ now (symbols .exit)) ⌝ }
 {
     let left = term(line, rows, symbols, out, from, ROOM)?;
     let right = term(line, rows, symbols, out, left, ROOM)?;
@@ -58,11 +61,11 @@ fn atom(
     from: Cursor,
     sign: u32,
 ) -> Result<Cursor, Fault>
-    requires sign { ⌜ sign ≤ 1024 ⌝ }
-    requires within { ⌜ (from .count ≤ from .pos) × (now symbols ≤ length (now rows)) × (now symbols ≤ 256) ⌝ }
+    requires sign { ⌜ sign ≤ negation ⌝ }
+    requires within { ⌜ (from .count ≤ from .pos) × (now symbols ≤ length (now rows)) × (now symbols ≤ most-symbols) ⌝ }
     ensures is { λ r. ⌜ after r (now (out .exit)) (now (symbols .exit)) (now (rows .exit)) ≡ atomOf (now (line .entry)) sign (state from (now (out .entry)) (now (symbols .entry)) (now (rows .entry))) ⌝ }
     ensures on { λ r. ⌜ made r (λ a. a .count ≤ a .pos) ⌝ }
-    ensures counted { λ r. ⌜ (now (symbols .exit) ≤ length (now (rows .entry))) × (now (symbols .exit) ≤ 256) × (now (symbols .entry) ≤ now (symbols .exit)) ⌝ }
+    ensures counted { λ r. ⌜ (now (symbols .exit) ≤ length (now (rows .entry))) × (now (symbols .exit) ≤ most-symbols) × (now (symbols .entry) ≤ now (symbols .exit)) ⌝ }
 {
     let t = next(line, from.pos)?;
     match t.token {
@@ -94,10 +97,10 @@ fn negated(
     out: &mut [u32],
     from: Cursor,
 ) -> Result<Cursor, Fault>
-    requires within { ⌜ (from .count ≤ from .pos) × (now symbols ≤ length (now rows)) × (now symbols ≤ 256) ⌝ }
+    requires within { ⌜ (from .count ≤ from .pos) × (now symbols ≤ length (now rows)) × (now symbols ≤ most-symbols) ⌝ }
     ensures is { λ r. ⌜ after r (now (out .exit)) (now (symbols .exit)) (now (rows .exit)) ≡ negatedOf (now (line .entry)) (state from (now (out .entry)) (now (symbols .entry)) (now (rows .entry))) ⌝ }
     ensures on { λ r. ⌜ made r (λ a. a .count ≤ a .pos) ⌝ }
-    ensures counted { λ r. ⌜ (now (symbols .exit) ≤ length (now (rows .entry))) × (now (symbols .exit) ≤ 256) × (now (symbols .entry) ≤ now (symbols .exit)) ⌝ }
+    ensures counted { λ r. ⌜ (now (symbols .exit) ≤ length (now (rows .entry))) × (now (symbols .exit) ≤ most-symbols) × (now (symbols .entry) ≤ now (symbols .exit)) ⌝ }
 {
     let end = open(line, from.pos)?;
     let inner = Cursor { pos: end, ..from };
@@ -117,10 +120,10 @@ fn literal(
     out: &mut [u32],
     from: Cursor,
 ) -> Result<Cursor, Fault>
-    requires within { ⌜ (from .count ≤ from .pos) × (now symbols ≤ length (now rows)) × (now symbols ≤ 256) ⌝ }
+    requires within { ⌜ (from .count ≤ from .pos) × (now symbols ≤ length (now rows)) × (now symbols ≤ most-symbols) ⌝ }
     ensures is { λ r. ⌜ after r (now (out .exit)) (now (symbols .exit)) (now (rows .exit)) ≡ literalOf (now (line .entry)) (state from (now (out .entry)) (now (symbols .entry)) (now (rows .entry))) ⌝ }
     ensures on { λ r. ⌜ made r (λ a. a .count ≤ a .pos) ⌝ }
-    ensures counted { λ r. ⌜ (now (symbols .exit) ≤ length (now (rows .entry))) × (now (symbols .exit) ≤ 256) × (now (symbols .entry) ≤ now (symbols .exit)) ⌝ }
+    ensures counted { λ r. ⌜ (now (symbols .exit) ≤ length (now (rows .entry))) × (now (symbols .exit) ≤ most-symbols) × (now (symbols .entry) ≤ now (symbols .exit)) ⌝ }
 {
     let t = next(line, from.pos)?;
     match t.token {
@@ -141,11 +144,11 @@ fn literals(
     from: Cursor,
     given: u32,
 ) -> Result<Cursor, Fault>
-    requires given { ⌜ given ≤ 32 ⌝ }
-    requires within { ⌜ (from .count ≤ from .pos) × (now symbols ≤ length (now rows)) × (now symbols ≤ 256) ⌝ }
-    ensures is { λ r. ⌜ after r (now (out .exit)) (now (symbols .exit)) (now (rows .exit)) ≡ literal-list (now (line .entry)) (33 - given) (state from (now (out .entry)) (now (symbols .entry)) (now (rows .entry))) ⌝ }
+    requires given { ⌜ given ≤ most-literals ⌝ }
+    requires within { ⌜ (from .count ≤ from .pos) × (now symbols ≤ length (now rows)) × (now symbols ≤ most-symbols) ⌝ }
+    ensures is { λ r. ⌜ after r (now (out .exit)) (now (symbols .exit)) (now (rows .exit)) ≡ literal-list (now (line .entry)) (most-literals + 1 - given) (state from (now (out .entry)) (now (symbols .entry)) (now (rows .entry))) ⌝ }
     ensures on { λ r. ⌜ made r (λ a. a .count ≤ a .pos) ⌝ }
-    ensures counted { λ r. ⌜ (now (symbols .exit) ≤ length (now (rows .entry))) × (now (symbols .exit) ≤ 256) × (now (symbols .entry) ≤ now (symbols .exit)) ⌝ }
+    ensures counted { λ r. ⌜ (now (symbols .exit) ≤ length (now (rows .entry))) × (now (symbols .exit) ≤ most-symbols) × (now (symbols .entry) ≤ now (symbols .exit)) ⌝ }
 {
     match literal_mark(line, from.pos, given)? {
         Mark::Closed(end) => Ok(Cursor { pos: end, ..from }),
@@ -168,7 +171,7 @@ pub fn read_clause(
 ) -> Result<Cursor, Fault>
     ensures is { λ r. ⌜ after r (now (out .exit)) (now (symbols .exit)) (now (rows .exit)) ≡ clause-from (now (line .entry)) purpose from (now (out .entry)) (now (symbols .entry)) (now (rows .entry)) ⌝ }
     ensures on { λ r. ⌜ made r (λ a. a .count ≤ a .pos) ⌝ }
-    ensures counted { λ r. ⌜ made r (λ _. (now (symbols .exit) ≤ length (now (rows .entry))) × (now (symbols .exit) ≤ 256)) ⌝ }
+    ensures counted { λ r. ⌜ made r (λ _. (now (symbols .exit) ≤ length (now (rows .entry))) × (now (symbols .exit) ≤ most-symbols)) ⌝ }
 {
     check_count(rows, *symbols)?;
     let inner = open(line, from)?;

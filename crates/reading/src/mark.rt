@@ -4,6 +4,7 @@ ghost use Prim.Native.Nat.{_<_, _≤_};
 ghost use lib.Dec.{eqb};
 ghost use lib.ListN.{length};
 ghost use Rattle.std.specs.Vec.{made};
+ghost use Rattle.logic.specs.Limits.{literals as most-literals};
 ghost use Rattle.reading.specs.Clauses.{opening, closing, wording, Mark-on, Is-closed, literal-mark};
 use logic::LITERALS;
 use tokens::Fault;
@@ -56,8 +57,8 @@ pub fn word(line: &[u8], from: usize, due: &[u8]) -> Result<usize, Fault>
 
 /// Where one more literal or the closing bracket is due; `given` literals are read already.
 pub fn literal_mark(line: &[u8], from: usize, given: u32) -> Result<Mark, Fault>
-    ensures is { λ r. ⌜ r ≡ literal-mark (now (line .entry)) (eqb given 32) from ⌝ }
-    ensures on { λ r. ⌜ made r (λ m. Mark-on (length (now (line .entry))) from m × (given ≡ 32 → Is-closed m)) ⌝ }
+    ensures is { λ r. ⌜ r ≡ literal-mark (now (line .entry)) (eqb given most-literals) from ⌝ }
+    ensures on { λ r. ⌜ made r (λ m. Mark-on (length (now (line .entry))) from m × (given ≡ most-literals → Is-closed m)) ⌝ }
 {
     let t = next(line, from)?;
     match t.token {

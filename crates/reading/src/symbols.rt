@@ -5,6 +5,7 @@ ghost use Prim.Native.Nat.{_-_, _<_, _≤_};
 ghost use lib.ListN.{length, replicate};
 ghost use Rattle.std.specs.declared.result.Result.the-variants.{Ok};
 ghost use Rattle.std.specs.Vec.{made, refused};
+ghost use Rattle.logic.specs.Limits.{arguments as most-arguments, name-bytes, symbols as most-symbols};
 ghost use Rattle.reading.specs.Entering.{room-for-word, met, enter as enterOf, meet as meetOf, headed, head as headOf, settled, settle as settleOf};
 use crate::cursor::Cursor;
 use crate::cursor::Purpose;
@@ -33,8 +34,8 @@ pub struct Head {
 
 /// The name and zeros behind it.
 fn padded(name: &[u8]) -> [u8; NAME_BYTES]
-    requires { ⌜ length (now name) ≤ 16 ⌝ }
-    ensures { λ r. ⌜ r ≡ now (name .entry) ++ replicate (16 - length (now (name .entry))) 0 ⌝ }
+    requires { ⌜ length (now name) ≤ name-bytes ⌝ }
+    ensures { λ r. ⌜ r ≡ now (name .entry) ++ replicate (name-bytes - length (now (name .entry))) 0 ⌝ }
 {
     let mut bytes = [0u8; NAME_BYTES];
     let n = name.len();
@@ -61,11 +62,11 @@ fn enter(
     name: &[u8],
     place: usize,
 ) -> Result<usize, Fault>
-    requires short { ⌜ length (now name) ≤ 16 ⌝ }
-    requires counted { ⌜ (now symbols ≤ length (now rows)) × (now symbols ≤ 256) ⌝ }
+    requires short { ⌜ length (now name) ≤ name-bytes ⌝ }
+    requires counted { ⌜ (now symbols ≤ length (now rows)) × (now symbols ≤ most-symbols) ⌝ }
     ensures is { λ r. ⌜ met r (now (symbols .exit)) (now (rows .exit)) ≡ enterOf purpose kind (now (name .entry)) place (now (symbols .entry)) (now (rows .entry)) ⌝ }
     ensures on { λ r. ⌜ made r (λ s. s < now (symbols .exit)) ⌝ }
-    ensures counted { λ r. ⌜ (now (symbols .exit) ≤ length (now (rows .entry))) × (now (symbols .exit) ≤ 256) × (now (symbols .entry) ≤ now (symbols .exit)) ⌝ }
+    ensures counted { λ r. ⌜ (now (symbols .exit) ≤ length (now (rows .entry))) × (now (symbols .exit) ≤ most-symbols) × (now (symbols .entry) ≤ now (symbols .exit)) ⌝ }
 {
     let s = *symbols;
     if !enters(purpose) {
@@ -93,11 +94,11 @@ fn meet(
     name: &[u8],
     place: usize,
 ) -> Result<usize, Fault>
-    requires short { ⌜ length (now name) ≤ 16 ⌝ }
-    requires counted { ⌜ (now symbols ≤ length (now rows)) × (now symbols ≤ 256) ⌝ }
+    requires short { ⌜ length (now name) ≤ name-bytes ⌝ }
+    requires counted { ⌜ (now symbols ≤ length (now rows)) × (now symbols ≤ most-symbols) ⌝ }
     ensures is { λ r. ⌜ met r (now (symbols .exit)) (now (rows .exit)) ≡ meetOf purpose kind (now (name .entry)) place (now (symbols .entry)) (now (rows .entry)) ⌝ }
     ensures on { λ r. ⌜ made r (λ s. s < now (symbols .exit)) ⌝ }
-    ensures counted { λ r. ⌜ (now (symbols .exit) ≤ length (now (rows .entry))) × (now (symbols .exit) ≤ 256) × (now (symbols .entry) ≤ now (symbols .exit)) ⌝ }
+    ensures counted { λ r. ⌜ (now (symbols .exit) ≤ length (now (rows .entry))) × (now (symbols .exit) ≤ most-symbols) × (now (symbols .entry) ≤ now (symbols .exit)) ⌝ }
 {
     match symbol_named(&rows[0..*symbols], name) {
         Some(s) => {
@@ -119,10 +120,10 @@ pub fn read_head(
     from: Cursor,
     kind: Kind,
 ) -> Result<Head, Fault>
-    requires { ⌜ (now symbols ≤ length (now rows)) × (now symbols ≤ 256) ⌝ }
+    requires { ⌜ (now symbols ≤ length (now rows)) × (now symbols ≤ most-symbols) ⌝ }
     ensures is { λ r. ⌜ headed r (now (symbols .exit)) (now (rows .exit)) ≡ headOf (now (line .entry)) kind (from .purpose) (from .pos) (from .count) (now (symbols .entry)) (now (rows .entry)) ⌝ }
     ensures on { λ r. ⌜ made r (λ h. (h .symbol < now (symbols .exit)) × (from .pos < h .end) × (h .end ≤ length (now (line .entry)))) ⌝ }
-    ensures counted { λ r. ⌜ (now (symbols .exit) ≤ length (now (rows .entry))) × (now (symbols .exit) ≤ 256) × (now (symbols .entry) ≤ now (symbols .exit)) ⌝ }
+    ensures counted { λ r. ⌜ (now (symbols .exit) ≤ length (now (rows .entry))) × (now (symbols .exit) ≤ most-symbols) × (now (symbols .entry) ≤ now (symbols .exit)) ⌝ }
 {
     let t = next(line, from.pos)?;
     let name = symbol_name(t.token, t.place)?;
@@ -137,7 +138,7 @@ pub fn read_head(
 
 /// The closing bracket fixes an open arity, or holds the symbol to its own.
 pub fn settle(rows: &mut [SymbolRow], s: usize, given: u32, place: usize) -> Result<(), Fault>
-    requires { ⌜ (s < length (now rows)) × (given ≤ 4) ⌝ }
+    requires { ⌜ (s < length (now rows)) × (given ≤ most-arguments) ⌝ }
     ensures is { λ r. ⌜ settled r (now (rows .exit)) ≡ settleOf (now (rows .entry)) s given place ⌝ }
     ensures kept { λ r. ⌜ refused r (λ _. now (rows .exit) ≡ now (rows .entry)) ⌝ }
 {

@@ -6,6 +6,8 @@ ghost use lib.Dec.{eqb};
 ghost use lib.ListN.{length};
 ghost use Rattle.std.specs.declared.result.Result.the-variants.{Ok};
 ghost use Rattle.std.specs.Vec.{made};
+ghost use Rattle.logic.specs.Limits.{arguments as most-arguments, symbols as most-symbols};
+ghost use Rattle.logic.specs.Words.{symbol-word, negation};
 ghost use Rattle.reading.specs.States.{state, after, full as fullOf};
 ghost use Rattle.reading.specs.Terms.{fitting as fittingOf, Slot-on, slot as slotOf, after-group, args, nest, application as applicationOf, term as termOf};
 use crate::cursor::Cursor;
@@ -13,6 +15,7 @@ use crate::cursor::full;
 use crate::cursor::put;
 use crate::symbols::read_head;
 use crate::symbols::settle;
+use logic::ARGUMENTS;
 use logic::Kind;
 use logic::SYMBOL_WORD;
 use logic::SymbolRow;
@@ -22,7 +25,7 @@ use tokens::next;
 use tokens::variable;
 
 /// How many arguments a term or an atom may have.
-const MOST: u32 = 4;
+const MOST: u32 = ARGUMENTS as u32;
 
 /// What stands where an argument or the closing bracket is due, with the place behind it.
 #[derive(Clone, Copy)]
@@ -49,7 +52,7 @@ pub struct Role {
 
 /// Depth, words and number of an argument, in this order.
 fn fitting(room: u32, words: bool, given: u32, place: usize) -> Result<(), Fault>
-    ensures { λ r. ⌜ r ≡ fittingOf (eqb room 0) words (eqb given 4) place (Ok tt) ⌝ }
+    ensures { λ r. ⌜ r ≡ fittingOf (eqb room 0) words (eqb given most-arguments) place (Ok tt) ⌝ }
 {
     if room == 0 {
         return Err(Fault::Deep(place));
@@ -65,7 +68,7 @@ fn fitting(room: u32, words: bool, given: u32, place: usize) -> Result<(), Fault
 
 /// The slot that is due.
 fn read_slot(line: &[u8], from: Cursor, room: u32, given: u32) -> Result<Slot, Fault>
-    ensures is { λ r. ⌜ r ≡ slotOf (now (line .entry)) (eqb room 0) (fullOf (from .purpose) (from .count)) (eqb given 4) (from .pos) ⌝ }
+    ensures is { λ r. ⌜ r ≡ slotOf (now (line .entry)) (eqb room 0) (fullOf (from .purpose) (from .count)) (eqb given most-arguments) (from .pos) ⌝ }
     ensures on { λ r. ⌜ made r (λ s. Slot-on (length (now (line .entry))) (from .pos) room given s) ⌝ }
 {
     let t = next(line, from.pos)?;
@@ -93,11 +96,11 @@ pub fn application(
     from: Cursor,
     role: Role,
 ) -> Result<Cursor, Fault>
-    requires base { ⌜ role .base ≤ 1280 ⌝ }
-    requires within { ⌜ (from .count ≤ from .pos) × (now symbols ≤ length (now rows)) × (now symbols ≤ 256) ⌝ }
+    requires base { ⌜ role .base ≤ negation + symbol-word 0 ⌝ }
+    requires within { ⌜ (from .count ≤ from .pos) × (now symbols ≤ length (now rows)) × (now symbols ≤ most-symbols) ⌝ }
     ensures is { λ r. ⌜ after r (now (out .exit)) (now (symbols .exit)) (now (rows .exit)) ≡ applicationOf (now (line .entry)) (role .room) (role .base) (role .kind) (state from (now (out .entry)) (now (symbols .entry)) (now (rows .entry))) ⌝ }
     ensures on { λ r. ⌜ made r (λ a. a .count ≤ a .pos) ⌝ }
-    ensures counted { λ r. ⌜ (now (symbols .exit) ≤ length (now (rows .entry))) × (now (symbols .exit) ≤ 256) × (now (symbols .entry) ≤ now (symbols .exit)) ⌝ }
+    ensures counted { λ r. ⌜ (now (symbols .exit) ≤ length (now (rows .entry))) × (now (symbols .exit) ≤ most-symbols) × (now (symbols .entry) ≤ now (symbols .exit)) ⌝ }
 {
     let head = read_head(line, rows, symbols, from, role.kind)?;
     put(out, from.count, role.base + head.symbol as u32);
@@ -121,11 +124,11 @@ fn arguments(
     room: u32,
     given: u32,
 ) -> Result<Group, Fault>
-    requires given { ⌜ given ≤ 4 ⌝ }
-    requires within { ⌜ (from .count ≤ from .pos) × (now symbols ≤ length (now rows)) × (now symbols ≤ 256) ⌝ }
-    ensures is { λ r. ⌜ after-group r (now (out .exit)) (now (symbols .exit)) (now (rows .exit)) ≡ args (now (line .entry)) (nest (now (line .entry)) room) (eqb room 0) (5 - given) given (state from (now (out .entry)) (now (symbols .entry)) (now (rows .entry))) ⌝ }
-    ensures on { λ r. ⌜ made r (λ g. (g .at .count ≤ g .at .pos) × (g .given ≤ 4)) ⌝ }
-    ensures counted { λ r. ⌜ (now (symbols .exit) ≤ length (now (rows .entry))) × (now (symbols .exit) ≤ 256) × (now (symbols .entry) ≤ now (symbols .exit)) ⌝ }
+    requires given { ⌜ given ≤ most-arguments ⌝ }
+    requires within { ⌜ (from .count ≤ from .pos) × (now symbols ≤ length (now rows)) × (now symbols ≤ most-symbols) ⌝ }
+    ensures is { λ r. ⌜ after-group r (now (out .exit)) (now (symbols .exit)) (now (rows .exit)) ≡ args (now (line .entry)) (nest (now (line .entry)) room) (eqb room 0) (most-arguments + 1 - given) given (state from (now (out .entry)) (now (symbols .entry)) (now (rows .entry))) ⌝ }
+    ensures on { λ r. ⌜ made r (λ g. (g .at .count ≤ g .at .pos) × (g .given ≤ most-arguments)) ⌝ }
+    ensures counted { λ r. ⌜ (now (symbols .exit) ≤ length (now (rows .entry))) × (now (symbols .exit) ≤ most-symbols) × (now (symbols .entry) ≤ now (symbols .exit)) ⌝ }
 {
     match read_slot(line, from, room, given)? {
         Slot::Closed(end) => Ok(Group {
@@ -163,10 +166,10 @@ pub fn term(
     from: Cursor,
     room: u32,
 ) -> Result<Cursor, Fault>
-    requires within { ⌜ (from .count ≤ from .pos) × (now symbols ≤ length (now rows)) × (now symbols ≤ 256) ⌝ }
+    requires within { ⌜ (from .count ≤ from .pos) × (now symbols ≤ length (now rows)) × (now symbols ≤ most-symbols) ⌝ }
     ensures is { λ r. ⌜ after r (now (out .exit)) (now (symbols .exit)) (now (rows .exit)) ≡ termOf (now (line .entry)) room (state from (now (out .entry)) (now (symbols .entry)) (now (rows .entry))) ⌝ }
     ensures on { λ r. ⌜ made r (λ a. a .count ≤ a .pos) ⌝ }
-    ensures counted { λ r. ⌜ (now (symbols .exit) ≤ length (now (rows .entry))) × (now (symbols .exit) ≤ 256) × (now (symbols .entry) ≤ now (symbols .exit)) ⌝ }
+    ensures counted { λ r. ⌜ (now (symbols .exit) ≤ length (now (rows .entry))) × (now (symbols .exit) ≤ most-symbols) × (now (symbols .entry) ≤ now (symbols .exit)) ⌝ }
 {
     match read_slot(line, from, room, 0)? {
         Slot::Closed(end) => Err(Fault::Due(end - 1)),

@@ -7,6 +7,7 @@ ghost use lib.ListN.{length, getD, drop};
 ghost use Rattle.std.specs.shelf.Lists.{leading};
 ghost use Rattle.std.specs.shelf.Text.{sameBytes};
 ghost use Rattle.std.specs.declared.option.Option.the-variants.{Some, None};
+ghost use Rattle.logic.specs.Limits.{name-bytes};
 ghost use Rattle.logic.specs.Names.{digit, letter};
 ghost use Rattle.tokens.specs.Tokens.{tok};
 ghost use Rattle.tokens.specs.Forms.{decimal as decimalOf, digits as digitsOf, value, reserved as reservedOf, in-form, name-in-form, number-form, variable-form, keyword-form, symbol-form, behind};
@@ -20,9 +21,9 @@ use logic::VARIABLES;
 /// The largest number that a line may have.
 pub const LARGEST_NUMBER: u32 = 999_999;
 
-/// What at most 16 digits stand for, if all are digits and there are some.
+/// What a run of digits, at most as long as a name, stands for, if all are digits and there are some.
 fn digits(run: &[u8]) -> Option<u64>
-    requires { ⌜ length (now run) ≤ 16 ⌝ }
+    requires { ⌜ length (now run) ≤ name-bytes ⌝ }
     ensures { λ r. ⌜ r ≡ cond (digitsOf (now (run .entry))) (Some (value (now (run .entry)))) None ⌝ }
 {
     let mut n: u64 = 0;
@@ -37,7 +38,7 @@ fn digits(run: &[u8]) -> Option<u64>
 
 /// The number of a decimal that is at most `most`: digits only, no leading zero except 0 itself.
 fn decimal(run: &[u8], most: u32) -> Option<u32>
-    requires { ⌜ length (now run) ≤ 16 ⌝ }
+    requires { ⌜ length (now run) ≤ name-bytes ⌝ }
     ensures { λ r. ⌜ r ≡ cond (decimalOf (now (run .entry)) && leb (value (now (run .entry))) most) (Some (value (now (run .entry)))) None ⌝ }
 {
     match digits(run) {
