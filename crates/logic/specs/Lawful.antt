@@ -1,5 +1,5 @@
--- The clauses that a line can give over the symbol rows: kinds and arities as the rows say, variables, depth and
--- literals within their limits.
+-- Lawful clauses over symbol rows: kinds and arities as the rows say; variables, depth and literals within their limits.
+-- The names of the rows play no part in it.
 use Prim.Native.Nat.{ℕ, suc, max, _≤_, _<_}
 use mathlib.Core.List.{List}
 use lib.ListN.{length}

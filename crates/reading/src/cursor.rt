@@ -54,7 +54,7 @@ pub fn put(out: &mut [u32], at: usize, word: u32)
     }
 }
 
-/// Refuses a count of symbols that exceeds their store.
+/// Refuses a count of symbols that exceeds their store, of which at most 256 rows are used.
 pub fn check_count(rows: &[SymbolRow], symbols: usize) -> Result<(), Fault>
     ensures { λ r. ⌜ r ≡ count-checked symbols (now (rows .entry)) ⌝ }
 {

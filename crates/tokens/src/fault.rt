@@ -37,7 +37,7 @@ pub enum Fault {
     ManySymbols(usize),
     /// No inference rule has the keyword.
     NoRule(usize),
-    /// The count of symbols exceeds their store.
+    /// The count of symbols exceeds their store, of which at most 256 rows are used.
     Count,
 }
 
