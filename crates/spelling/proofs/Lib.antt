@@ -24,3 +24,5 @@ pub mod ReasonsGo
 pub mod StepsGo
 pub mod StepExact
 pub mod StepUnique
+pub mod Decimals
+pub mod SomeLine

@@ -4,20 +4,24 @@ use mathlib.Core.Bool.{true}
 use mathlib.Core.List.{List, _++_}
 use Prim.Native.Nat.{ℕ, _≤_, _<_}
 use lib.ListN.{length, take, drop}
-use Rattle.std.specs.shelf.Lists.{leading}
+use Rattle.std.specs.shelf.Lists.{All, leading}
+use Rattle.std.specs.declared.option.Option.the-variants.{Some}
 use Rattle.std.specs.declared.result.Result.the-variants.{Ok}
 use Rattle.logic.specs.Limits as limits
 use Rattle.logic.specs.Syntax.{Clause}
 use Rattle.logic.specs.Words.{clause-words}
 use Rattle.logic.specs.Lawful.{Lawful}
-use Rattle.logic.specs.Symbols.{row-at}
+use Rattle.logic.specs.Names.{name-byte}
+use Rattle.logic.specs.Symbols.{row-at, name-of}
+use Rattle.logic.specs.Directory.{place-of-name}
 use Rattle.logic.specs.declared.row.SymbolRow.{SymbolRow}
 use Rattle.tokens.specs.declared.byte.Class.the-variants.{Space}
 use Rattle.tokens.specs.Bytes.{within}
-use Rattle.tokens.specs.Tokens.{Tok}
+use Rattle.tokens.specs.Tokens.{Tok, word, class}
+use Rattle.tokens.specs.Forms.{largest-number}
 use Rattle.lines.specs.Rules.{Ruled, rule-line}
 use Rattle.spelling.specs.Spacing.{Spaced}
-use Rattle.spelling.specs.Grammar.{Spells-rule}
+use Rattle.spelling.specs.Grammar.{Symbol-name, Spells-rule}
 use Rattle.spelling.specs.Appearance.{clause-symbols, Appear, Plain-row}
 
 -- ── Before the line ──
@@ -87,3 +91,16 @@ abbrev pub Spelled-rules-are-lawful : Type 0
 Spelled-rules-are-lawful =
     (line : List ℕ) (n : ℕ) (rows : List SymbolRow) → Counted n rows → (number : ℕ) (c : Clause) (table : List SymbolRow)
     → Spells-rule-line line n rows number c table → Lawful table c
+
+-- each symbol has a name that a line can spell, and no other has it before
+pub record Nameable (table : List SymbolRow) : Type 0 where
+  pub form : (k : ℕ) → k < length table → Symbol-name (name-of (row-at table k))
+  pub bytes : (k : ℕ) → k < length table → All (λ b. name-byte b ≡ true) (name-of (row-at table k))
+  pub class-is : (k : ℕ) → k < length table → class (name-of (row-at table k)) ≡ word (name-of (row-at table k))
+  pub own : (k : ℕ) → k < length table → place-of-name table (name-of (row-at table k)) ≡ Some k
+
+-- every lawful clause over such symbols is that of some line, with any step number
+abbrev pub Lawful-clauses-are-spelled : Type 0
+Lawful-clauses-are-spelled =
+    (n : ℕ) (rows : List SymbolRow) → Counted n rows → Nameable (take n rows) → (c : Clause) → Lawful (take n rows) c → (number : ℕ) → 0 < number → number ≤ largest-number
+    → (line : List ℕ) × Spells-rule-line line n rows number c (take n rows)
