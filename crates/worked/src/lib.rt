@@ -1,4 +1,4 @@
-//! Worked examples: small clauses, their words, and what reading makes of their lines.
+//! Worked examples: small clauses, their words, and what their lines read as.
 ghost use Rattle.worked.specs.Trees.{Words-of-small-clauses};
 ghost use Rattle.worked.specs.Texts.{Lines-of-small-clauses, Lines-have-the-words-of-trees, Variables-end-at-63, Read-again-the-same};
 
