@@ -1,0 +1,12 @@
+pub mod Same
+pub mod Answers
+pub mod Literals
+pub mod Instantiate
+pub mod Resolve
+pub mod Equations
+pub mod Positions
+pub mod Paramod
+pub mod Flip
+pub mod Propositional
+pub mod Reflexive
+pub mod Worked
