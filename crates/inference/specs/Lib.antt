@@ -1,4 +1,5 @@
 pub mod Same
+pub mod Law
 pub mod Answers
 pub mod Literals
 pub mod Instantiate
@@ -9,4 +10,6 @@ pub mod Paramod
 pub mod Flip
 pub mod Propositional
 pub mod Reflexive
+pub mod Soundness
+pub mod Conclusions
 pub mod Worked

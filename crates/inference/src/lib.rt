@@ -1,5 +1,19 @@
-//! The six inference rules on trees: what each answers.
+//! The six inference rules on trees: what each answers, and that what it allows follows.
+ghost use Rattle.inference.specs.Soundness.{Instantiate-is-sound, Resolve-is-sound, Paramod-is-sound, Flip-is-sound, Propositional-is-sound, Reflexive-is-sound};
 ghost use Rattle.inference.specs.Worked.{Worked-instances, Worked-resolvents, Worked-paramodulants, Worked-flips, Worked-rearrangements, Worked-reflections};
+
+/// States, of each inference rule: where it answers allowed, the conclusion is true in every structure, finite or
+/// countable, in which its premises are true.
+pub fn the_six_rules_are_sound() -> u8
+    ensures instantiate { λ _. ⌜ Instantiate-is-sound ⌝ }
+    ensures resolve { λ _. ⌜ Resolve-is-sound ⌝ }
+    ensures paramod { λ _. ⌜ Paramod-is-sound ⌝ }
+    ensures flip { λ _. ⌜ Flip-is-sound ⌝ }
+    ensures propositional { λ _. ⌜ Propositional-is-sound ⌝ }
+    ensures reflexive { λ _. ⌜ Reflexive-is-sound ⌝ }
+{
+    0
+}
 
 /// States the answers to worked inferences, allowed ones and faults 21 to 27.
 pub fn worked_inferences() -> u8

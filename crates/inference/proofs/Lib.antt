@@ -1,0 +1,10 @@
+pub mod Bools
+pub mod Same
+pub mod Truth
+pub mod Demands
+pub mod InstantiateSound
+pub mod ResolveSound
+pub mod ParamodSound
+pub mod FlipSound
+pub mod PropositionalSound
+pub mod ReflexiveSound
