@@ -8,3 +8,9 @@ pub mod ParamodSound
 pub mod FlipSound
 pub mod PropositionalSound
 pub mod ReflexiveSound
+pub mod InstantiateExact
+pub mod ResolveExact
+pub mod ParamodExact
+pub mod FlipExact
+pub mod PropositionalExact
+pub mod ReflexiveExact

@@ -12,4 +12,5 @@ pub mod Propositional
 pub mod Reflexive
 pub mod Soundness
 pub mod Conclusions
+pub mod Exactness
 pub mod Worked

@@ -1,5 +1,6 @@
-//! The six inference rules on trees: what each answers, and that what it allows follows.
+//! The six inference rules on trees: what each answers, that what it allows follows, and what exactly it allows.
 ghost use Rattle.inference.specs.Soundness.{Instantiate-is-sound, Resolve-is-sound, Paramod-is-sound, Flip-is-sound, Propositional-is-sound, Reflexive-is-sound};
+ghost use Rattle.inference.specs.Exactness.{Instantiate-is-exact, Resolve-is-exact, Paramod-is-exact, Flip-is-exact, Propositional-is-exact, Reflexive-is-exact};
 ghost use Rattle.inference.specs.Worked.{Worked-instances, Worked-resolvents, Worked-paramodulants, Worked-flips, Worked-rearrangements, Worked-reflections};
 
 /// States, of each inference rule: where it answers allowed, the conclusion is true in every structure, finite or
@@ -11,6 +12,19 @@ pub fn the_six_rules_are_sound() -> u8
     ensures flip { λ _. ⌜ Flip-is-sound ⌝ }
     ensures propositional { λ _. ⌜ Propositional-is-sound ⌝ }
     ensures reflexive { λ _. ⌜ Reflexive-is-sound ⌝ }
+{
+    0
+}
+
+/// States, of each inference rule: it answers allowed exactly when its side conditions hold and the conclusion is the one
+/// that it gives.
+pub fn the_six_rules_are_exact() -> u8
+    ensures instantiate { λ _. ⌜ Instantiate-is-exact ⌝ }
+    ensures resolve { λ _. ⌜ Resolve-is-exact ⌝ }
+    ensures paramod { λ _. ⌜ Paramod-is-exact ⌝ }
+    ensures flip { λ _. ⌜ Flip-is-exact ⌝ }
+    ensures propositional { λ _. ⌜ Propositional-is-exact ⌝ }
+    ensures reflexive { λ _. ⌜ Reflexive-is-exact ⌝ }
 {
     0
 }
