@@ -1,10 +1,10 @@
 -- What flip allows follows: an equality and the one with its sides exchanged are true under the same valuations.
 use mathlib.Core.Path.{_≡_, refl, sym, _∙_, ap, subst}
-use mathlib.Core.List.{List, [], _∷_}
+use mathlib.Core.List.{[], _∷_}
 use mathlib.Core.Bool.{Bool, cond, not, _||_}
 use Prim.Native.Nat.{ℕ, zero, suc}
 use lib.Dec.{T, eqb, eqb·zero-suc, eqb·suc-zero, eqb·suc-suc}
-use Rattle.logic.specs.Syntax.{Atom, Literal, Clause, predicate, equal}
+use Rattle.logic.specs.Syntax.{Atom, Literal, predicate, equal}
 use Rattle.logic.specs.Literals.{literal}
 use Rattle.logic.specs.Structures.{Structure, Valuation, value, literal-truth, clause-truth}
 use Rattle.inference.specs.Law.{Follows}

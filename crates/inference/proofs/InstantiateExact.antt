@@ -1,14 +1,15 @@
 -- Instantiate allows exactly the premise with each bound variable replaced, no variable bound twice.
 use mathlib.Core.Path.{_≡_, refl, sym, _∙_, ap, subst, fun-ext}
 use mathlib.Core.List.{List, [], _∷_}
-use mathlib.Core.Bool.{Bool, true, false, cond, not, _||_}
+use mathlib.Core.Bool.{Bool, true, false, cond, not}
 use Prim.Native.Nat.{ℕ}
 use lib.Dec.{T, T-not, not-T, eqb, eqb→eq, eqb-refl}
 use Rattle.std.specs.shelf.Lists.{All}
 use Rattle.logic.specs.Syntax.{Term, Clause, var}
+use Rattle.inference.specs.Same.{same-clause}
 use Rattle.inference.specs.Answers.{allowed}
 use Rattle.inference.specs.Instantiate.{Substitution, Binding, instance-of, binds, twice, substitution, instantiate, instantiate-demands}
-use Rattle.inference.specs.Conclusions.{Unbound, Bound-once, Replaces, Instantiates}
+use Rattle.inference.specs.Conclusions.{Unbound, Bound-once, Instance, Instantiates}
 use Rattle.inference.specs.Exactness.{Instantiate-is-exact}
 use Rattle.inference.proofs.Bools.{not-or-left, not-or-right, neither}
 use Rattle.inference.proofs.Same.{clause-is, clause-same}
@@ -39,14 +40,14 @@ not-bound [] i h = tt
 not-bound (b ∷ bs) i h =
     neither (eqb (b .variable) i) (binds bs i) (λ q. h .0 (eqb→eq (b .variable) i q)) (not-bound bs i (h .1))
 
-bound-once : (bs : List Binding) → T (not (twice bs)) → Bound-once bs
+pub bound-once : (bs : List Binding) → T (not (twice bs)) → Bound-once bs
 bound-once [] h = tt
 bound-once (b ∷ bs) h = (
   unbound bs (b .variable) (not-T (binds bs (b .variable)) (not-or-left (binds bs (b .variable)) (twice bs) h)),
   bound-once bs (not-or-right (binds bs (b .variable)) (twice bs) h),
 )
 
-not-twice : (bs : List Binding) → Bound-once bs → T (not (twice bs))
+pub not-twice : (bs : List Binding) → Bound-once bs → T (not (twice bs))
 not-twice [] h = tt
 not-twice (b ∷ bs) h =
     neither (binds bs (b .variable)) (twice bs) (T-not (binds bs (b .variable)) (not-bound bs (b .variable) (h .0)))
@@ -89,24 +90,34 @@ only-one (b ∷ bs) σ h i o =
     (λ q. sym (h .0) ∙ ap σ (eqb→eq (b .variable) i q))
     (λ n. only-one bs σ (h .1) i (λ u. o (λ e. n (eq→eqb (b .variable) i e), u)))
 
+-- ── The instance ──
+
+pub has-instance : (i : Clause) (bs : List Binding) (c : Clause) → Bound-once bs
+    → T (same-clause (instance-of (substitution bs) i) c) → Instance i bs c
+has-instance i bs c once q =
+    record {
+      σ = substitution bs;
+      replaces = record { bound = each-goes bs once; others = other-stays bs };
+      conclusion = sym (clause-is (instance-of (substitution bs) i) c q);
+    }
+
+pub instance-has : (i : Clause) (bs : List Binding) (c : Clause) → Instance i bs c
+    → T (same-clause (instance-of (substitution bs) i) c)
+instance-has i bs c h =
+    let e : substitution bs ≡ h .σ = fun-ext (λ k. only-one bs (h .σ) (h .replaces .bound) k (h .replaces .others k)) in
+    clause-same (instance-of (substitution bs) i) c (ap (λ τ. instance-of τ i) e ∙ sym (h .conclusion))
+
 -- ── Both directions ──
 
 instantiates : (i : Clause) (bs : List Binding) (c : Clause) → instantiate i bs c ≡ allowed → Instantiates i bs c
 instantiates i bs c ok =
     let d = met (instantiate-demands i bs c) ok in
     let once : Bound-once bs = bound-once bs (d .0) in
-    record {
-      once = once;
-      σ = substitution bs;
-      replaces = record { bound = each-goes bs once; others = other-stays bs };
-      conclusion = sym (clause-is (instance-of (substitution bs) i) c (d .1 .0));
-    }
+    record { once = once; instance = has-instance i bs c once (d .1 .0) }
 
 allows : (i : Clause) (bs : List Binding) (c : Clause) → Instantiates i bs c → instantiate i bs c ≡ allowed
 allows i bs c h =
-    let e : substitution bs ≡ h .σ = fun-ext (λ k. only-one bs (h .σ) (h .replaces .bound) k (h .replaces .others k)) in
-    allowed-where-met (instantiate-demands i bs c)
-    (not-twice bs (h .once), (clause-same (instance-of (substitution bs) i) c (ap (λ τ. instance-of τ i) e ∙ sym (h .conclusion)), tt))
+    allowed-where-met (instantiate-demands i bs c) (not-twice bs (h .once), (instance-has i bs c (h .instance), tt))
 
 pub instantiate-is-exact : Instantiate-is-exact
 instantiate-is-exact i bs c = (instantiates i bs c, allows i bs c)

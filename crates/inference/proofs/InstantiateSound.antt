@@ -1,14 +1,14 @@
 -- What instantiate allows follows: a valuation of the instance, with the values of the terms for the variables, is a
 -- valuation of the premise.
 use mathlib.Core.Path.{_≡_, refl, sym, ap, ap₂, subst}
-use mathlib.Core.List.{List, [], _∷_}
+use mathlib.Core.List.{[], _∷_}
 use mathlib.Core.Bool.{cond, not, _||_}
 use lib.Dec.{T, eqb}
 use Rattle.std.specs.shelf.Lists.{All}
 use Rattle.logic.specs.Syntax.{Term, Terms, Atom, Literal, Clause, var, app, []ₜ, _∷ₜ_, predicate, equal}
 use Rattle.logic.specs.Structures.{Structure, Valuation, Element, Of-elements, value, values, atom-truth, literal-truth, clause-truth}
 use Rattle.inference.specs.Law.{Follows}
-use Rattle.inference.specs.Instantiate.{Substitution, Binding, instance-term, instance-terms, instance-atom, instance-literal, instance-of, substitution, instantiate-demands}
+use Rattle.inference.specs.Instantiate.{Substitution, instance-term, instance-terms, instance-atom, instance-literal, instance-of, substitution, instantiate-demands}
 use Rattle.inference.specs.Soundness.{Instantiate-is-sound}
 use Rattle.inference.proofs.Same.{clause-is}
 use Rattle.inference.proofs.Demands.{met}

@@ -14,3 +14,4 @@ pub mod ParamodExact
 pub mod FlipExact
 pub mod PropositionalExact
 pub mod ReflexiveExact
+pub mod Order

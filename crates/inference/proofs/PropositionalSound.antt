@@ -1,7 +1,7 @@
 -- What propositional allows follows: a true literal of the premise is a literal of the conclusion.
-use mathlib.Core.Path.{_≡_, subst}
+use mathlib.Core.Path.{subst}
 use mathlib.Core.Logic.{⊎-elim}
-use mathlib.Core.List.{List, [], _∷_}
+use mathlib.Core.List.{[], _∷_}
 use lib.Dec.{T}
 use Rattle.logic.specs.Syntax.{Literal, Clause}
 use Rattle.logic.specs.Structures.{Structure, Valuation, literal-truth, clause-truth}

@@ -1,6 +1,6 @@
 -- What reflexive allows is true in every structure: a term has one value under a valuation.
-use mathlib.Core.Path.{_≡_, subst}
-use mathlib.Core.List.{List, [], _∷_}
+use mathlib.Core.Path.{subst}
+use mathlib.Core.List.{[], _∷_}
 use mathlib.Core.Bool.{Bool, true, false}
 use lib.Dec.{T, eqb, eqb-refl}
 use Rattle.logic.specs.Syntax.{Term, Atom, Literal, Clause, predicate, equal}

@@ -1,6 +1,6 @@
 -- What resolve allows follows: under a valuation the two literals are not both true, so another literal is.
 use mathlib.Core.Path.{_≡_, sym, subst}
-use mathlib.Core.List.{List, [], _∷_, _++_}
+use mathlib.Core.List.{[], _∷_, _++_}
 use mathlib.Core.Bool.{not, Bool·beq}
 use Prim.Native.Nat.{ℕ}
 use lib.Dec.{T}

@@ -1,8 +1,8 @@
 -- The tests of sameness decide whether trees are equal.
 use mathlib.Core.Path.{_≡_, refl, ap₂, ap, subst, sym}
-use mathlib.Core.Logic.{_⊎_, inl, inr, ⊎-elim}
-use mathlib.Core.List.{List, [], _∷_}
-use mathlib.Core.Bool.{Bool, true, false, _&&_, _||_, Bool·beq}
+use mathlib.Core.Logic.{inl, inr, ⊎-elim}
+use mathlib.Core.List.{[], _∷_}
+use mathlib.Core.Bool.{Bool·beq}
 use lib.Dec.{T, eqb, eqb→eq, eqb-refl}
 use Rattle.logic.specs.Syntax.{Term, Terms, Atom, Literal, Clause, var, app, []ₜ, _∷ₜ_, predicate, equal}
 use Rattle.inference.specs.Same.{same-term, same-terms, same-atom, same-literal, same-clause, stands-in, within}

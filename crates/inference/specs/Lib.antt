@@ -14,3 +14,4 @@ pub mod Soundness
 pub mod Conclusions
 pub mod Exactness
 pub mod Worked
+pub mod Order

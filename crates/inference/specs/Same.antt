@@ -1,5 +1,5 @@
 -- Sameness of trees, as a test.
-use mathlib.Core.List.{List, [], _∷_}
+use mathlib.Core.List.{[], _∷_}
 use mathlib.Core.Bool.{Bool, true, false, _&&_, _||_, Bool·beq}
 use lib.Dec.{eqb}
 use Rattle.logic.specs.Syntax.{Term, Terms, Atom, Literal, Clause, var, app, []ₜ, _∷ₜ_, predicate, equal}

@@ -1,9 +1,9 @@
 -- Worked inferences. The symbols are: predicates p = 0, q = 1, r = 2; functions a = 3, f = 4.
 use Prim.Native.Nat.{ℕ}
 use mathlib.Core.Path.{_≡_}
-use mathlib.Core.List.{List, [], _∷_}
+use mathlib.Core.List.{[], _∷_}
 use mathlib.Core.Bool.{true, false}
-use Rattle.logic.specs.Syntax.{Term, Terms, Atom, Literal, Clause, var, app, []ₜ, _∷ₜ_, predicate, equal}
+use Rattle.logic.specs.Syntax.{Term, Atom, Literal, Clause, var, app, []ₜ, _∷ₜ_, predicate, equal}
 use Rattle.inference.specs.Answers.{allowed, fault}
 use Rattle.inference.specs.Instantiate.{Binding, instantiate}
 use Rattle.inference.specs.Resolve.{resolve}
@@ -56,12 +56,13 @@ to v t = record { variable = v; term = t }
 abbrev pub pair : Clause
 pair = is (p-of-two (var 0) (var 1)) ∷ []
 
--- instances of (or (p v0 v1))
+-- instances of (or (p v0 v1)) and of (or (p v0))
 pub record Worked-instances : Type 0 where
   pub swapped : instantiate pair (to 0 (var 1) ∷ to 1 (var 0) ∷ []) (is (p-of-two (var 1) (var 0)) ∷ []) ≡ allowed
   pub one-after-the-other : instantiate pair (to 0 (var 1) ∷ to 1 (var 0) ∷ []) (is (p-of-two (var 0) (var 0)) ∷ []) ≡ fault 27
   pub bound-twice : instantiate pair (to 0 (var 1) ∷ to 0 (var 1) ∷ []) (is (p-of-two (var 1) (var 1)) ∷ []) ≡ fault 26
   pub none-bound : instantiate pair [] pair ≡ allowed
+  pub a-put-in : instantiate (is (p-of (var 0)) ∷ []) (to 0 a-term ∷ []) (is (p-of a-term) ∷ []) ≡ allowed
 
 -- (or (q v1) (p (a)))
 abbrev pub q-or-p : Clause
