@@ -11,12 +11,13 @@ use Rattle.inference.specs.Answers.{Answer, Demand, _otherwise_, answer}
 abbrev pub Substitution : Type 0
 Substitution = ℕ → Term
 
--- each variable replaced by its term; a term that was put in is not replaced again
 abbrev mutual
+  -- each variable replaced by its term; a term that was put in is not replaced again
   pub instance-term : Substitution → Term → Term
   instance-term σ (var i) = σ i
   instance-term σ (app s ts) = app s (instance-terms σ ts)
 
+  -- the same in each of some terms
   pub instance-terms : Substitution → Terms → Terms
   instance-terms σ []ₜ = []ₜ
   instance-terms σ (t ∷ₜ ts) = instance-term σ t ∷ₜ instance-terms σ ts

@@ -5,28 +5,30 @@ use Rattle.std.specs.declared.option.Option.{Option}
 use Rattle.std.specs.declared.option.Option.the-variants.{Some, None}
 use Rattle.logic.specs.Syntax.{Term, Terms, Atom, Literal, var, app, []ₜ, _∷ₜ_, predicate, equal}
 
--- the term to which a position leads, if it leads to one: from a term, and from argument k of some arguments
 abbrev mutual
+  -- the term to which a position leads from a term, if it leads to one
   pub term-at : Term → List ℕ → Option Term
   term-at (var i) [] = Some (var i)
   term-at (var i) (k ∷ p) = None
   term-at (app s ts) [] = Some (app s ts)
   term-at (app s ts) (k ∷ p) = argument-at ts k p
 
+  -- the term to which a position leads from argument k
   pub argument-at : Terms → ℕ → List ℕ → Option Term
   argument-at []ₜ k p = None
   argument-at (t ∷ₜ ts) zero p = None
   argument-at (t ∷ₜ ts) (suc zero) p = term-at t p
   argument-at (t ∷ₜ ts) (suc (suc k)) p = argument-at ts (suc k) p
 
--- `new` in the place of the term to which a position leads, and all else as it is
 abbrev mutual
+  -- the term with `new` in the place to which the position leads, and all else as it is
   pub put-term : Term → List ℕ → Term → Term
   put-term (var i) [] new = new
   put-term (var i) (k ∷ p) new = var i
   put-term (app s ts) [] new = new
   put-term (app s ts) (k ∷ p) new = app s (put-argument ts k p new)
 
+  -- the same in argument k, and the other arguments as they are
   pub put-argument : Terms → ℕ → List ℕ → Term → Terms
   put-argument []ₜ k p new = []ₜ
   put-argument (t ∷ₜ ts) zero p new = t ∷ₜ ts

@@ -4,14 +4,15 @@ use mathlib.Core.Bool.{Bool, true, false, _&&_, _||_, Bool·beq}
 use lib.Dec.{eqb}
 use Rattle.logic.specs.Syntax.{Term, Terms, Atom, Literal, Clause, var, app, []ₜ, _∷ₜ_, predicate, equal}
 
--- the same variable, or the same symbol with the same arguments
 abbrev mutual
+  -- the same variable, or the same symbol with the same arguments
   pub same-term : Term → Term → Bool
   same-term (var i) (var j) = eqb i j
   same-term (var i) (app q us) = false
   same-term (app s ts) (var j) = false
   same-term (app s ts) (app q us) = eqb s q && same-terms ts us
 
+  -- as many terms, the same at each place
   pub same-terms : Terms → Terms → Bool
   same-terms []ₜ []ₜ = true
   same-terms []ₜ (u ∷ₜ us) = false
