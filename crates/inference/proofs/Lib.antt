@@ -1,0 +1,17 @@
+pub mod Bools
+pub mod Same
+pub mod Truth
+pub mod Demands
+pub mod InstantiateSound
+pub mod ResolveSound
+pub mod ParamodSound
+pub mod FlipSound
+pub mod PropositionalSound
+pub mod ReflexiveSound
+pub mod InstantiateExact
+pub mod ResolveExact
+pub mod ParamodExact
+pub mod FlipExact
+pub mod PropositionalExact
+pub mod ReflexiveExact
+pub mod Order

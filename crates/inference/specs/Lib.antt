@@ -1,0 +1,17 @@
+pub mod Same
+pub mod Law
+pub mod Answers
+pub mod Literals
+pub mod Instantiate
+pub mod Resolve
+pub mod Equations
+pub mod Positions
+pub mod Paramod
+pub mod Flip
+pub mod Propositional
+pub mod Reflexive
+pub mod Soundness
+pub mod Conclusions
+pub mod Exactness
+pub mod Worked
+pub mod Order
