@@ -21,7 +21,7 @@ use Rattle.lines.specs.Numbers.{step-number, line-end}
 use Rattle.lines.specs.Rules.{Ruled, after-rule, rule-line}
 
 module _ (bs out : List ℕ) (n : ℕ) (rows : List SymbolRow) where
-  abbrev Ruled-covers : Ruled → Type 0
+  abbrev pub Ruled-covers : Ruled → Type 0
   Ruled-covers l = Covers n rows (l .symbols) (l .rows)
 
   pub rule-covers : Safe (Halt-covers n rows) Ruled-covers (rule-line bs out n rows)
