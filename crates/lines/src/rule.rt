@@ -1,5 +1,9 @@
 //! Rule lines.
 ghost use mathlib.Core.Path.{_≡_};
+ghost use Prim.Native.Nat.{_≤_};
+ghost use lib.ListN.{length, take};
+ghost use Rattle.logic.specs.Limits.{symbols as symbol-room};
+ghost use Rattle.reading.specs.Fixed.{Fixed};
 ghost use Rattle.lines.specs.Rules.{after-rule, rule-line};
 use crate::number::check_end;
 use crate::number::read_step_number;
@@ -20,8 +24,8 @@ pub struct RuleLine {
     pub words: usize,
 }
 
-/// Reads `(rule N clause)`: the clause's words go to `out`, new names become symbols.
-pub fn read_rule(
+/// The text of a rule line.
+fn read_text(
     line: &[u8],
     rows: &mut [SymbolRow],
     symbols: &mut usize,
@@ -41,4 +45,19 @@ pub fn read_rule(
         number: step.number,
         words: clause.count,
     })
+}
+
+/// Reads `(rule N clause)`: the clause's words go to `out`, new names become symbols. Whether the line is read or refused, no symbol is lost,
+/// their count stays within its bounds, and the rows of those counted before the line stay as they were where the arities are fixed.
+pub fn read_rule(
+    line: &[u8],
+    rows: &mut [SymbolRow],
+    symbols: &mut usize,
+    out: &mut [u32],
+) -> Result<RuleLine, Fault>
+    ensures is { λ r. ⌜ after-rule r (now (out .exit)) (now (symbols .exit)) (now (rows .exit)) ≡ rule-line (now (line .entry)) (now (out .entry)) (now (symbols .entry)) (now (rows .entry)) ⌝ }
+    ensures kept { λ r. ⌜ (Fixed (now (symbols .entry)) (now (rows .entry)) → take (now (symbols .entry)) (now (rows .exit)) ≡ take (now (symbols .entry)) (now (rows .entry))) ⌝ }
+    ensures counted { λ r. ⌜ (now (symbols .entry) ≤ now (symbols .exit)) × ((now (symbols .entry) ≤ length (now (rows .entry))) × (now (symbols .entry) ≤ symbol-room) → (now (symbols .exit) ≤ length (now (rows .exit))) × (now (symbols .exit) ≤ symbol-room)) ⌝ }
+{
+    read_text(line, rows, symbols, out)
 }

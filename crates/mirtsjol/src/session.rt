@@ -1,73 +1,19 @@
-//! A session: lines are read one after another against the symbols of those that read.
-ghost use mathlib.Core.Path.{_≡_};
-ghost use mathlib.Core.List.{_++_};
-ghost use Rattle.std.specs.Of.String.{string-bytes};
+//! A session: the stores, and how many symbols are counted.
+mod calls;
+
+ghost use Prim.Native.Nat.{_≤_};
 ghost use Rattle.std.specs.Of.Vec.{vec-items, vec-len};
-ghost use Rattle.std.specs.Vec.{made};
 ghost use Rattle.logic.specs.Limits.{symbols as symbol-room};
-ghost use Rattle.mirtsjol.specs.Verdicts.{after-answer};
-ghost use Rattle.mirtsjol.specs.Sessions.{word-room, judged-in};
-ghost use Rattle.mirtsjol.specs.Texts.{told};
-use crate::judge::Answer;
-use crate::judge::judge;
-use crate::text::add_answer;
-use logic::Kind;
-use logic::NAME_BYTES;
-use logic::SYMBOLS;
+ghost use Rattle.reading.specs.Fixed.{Fixed};
 use logic::SymbolRow;
-use std::alloc::AllocError;
-use std::alloc::Global;
-use std::fmt;
 
-/// How many words the store has room for.
-pub const WORDS: usize = 1_048_576;
-
-/// The row that the symbol store is filled with at first.
-const BLANK: SymbolRow = SymbolRow {
-    name: [0; NAME_BYTES],
-    length: 0,
-    kind: Kind::Function,
-    arity: 0,
-};
-
-/// The stores, and how many symbols are counted.
+/// The stores, and how many symbols are counted: within the store and the limit, each with a fixed arity.
 #[derive(Drop)]
 pub struct Session {
     rows: Vec<SymbolRow>,
     symbols: usize,
     words: Vec<u32>,
-}
-
-impl Session {
-    /// A session that has met no symbol.
-    pub fn new(heap: Global) -> Result<Session, AllocError>
-        ensures { λ r. ⌜ made r (λ s. (s .symbols ≡ 0) × (vec-len (s .rows) ≡ symbol-room) × (vec-len (s .words) ≡ word-room)) ⌝ }
-    {
-        let rows = vec![in heap; BLANK; SYMBOLS]?;
-        let words = vec![in heap; 0; WORDS]?;
-        Ok(Session {
-            rows,
-            symbols: 0,
-            words,
-        })
-    }
-
-    /// Reads a line; the words that it answers stand first in the store.
-    fn answer(&mut self, line: &[u8]) -> Answer
-        ensures is { λ r. ⌜ after-answer r (vec-items (now (self .exit) .words)) (now (self .exit) .symbols) (vec-items (now (self .exit) .rows)) ≡ judged-in (now (self .entry)) (now (line .entry)) ⌝ }
-        ensures room { λ _. ⌜ (vec-len (now (self .exit) .words) ≡ vec-len (now (self .entry) .words)) × (vec-len (now (self .exit) .rows) ≡ vec-len (now (self .entry) .rows)) ⌝ }
-    {
-        judge(line, &mut self.rows, &mut self.symbols, &mut self.words)
-    }
-
-    /// Reads a line and adds the line that answers it to `text`.
-    pub fn tell(&mut self, line: &[u8], text: &mut String) -> fmt::Result
-        ensures text { λ r. ⌜ made r (λ _. string-bytes (now (text .exit)) ≡ string-bytes (now (text .entry)) ++ told (judged-in (now (self .entry)) (now (line .entry)) .verdict)) ⌝ }
-        ensures symbols { λ _. ⌜ now (self .exit) .symbols ≡ judged-in (now (self .entry)) (now (line .entry)) .symbols ⌝ }
-        ensures rows { λ _. ⌜ vec-items (now (self .exit) .rows) ≡ judged-in (now (self .entry)) (now (line .entry)) .rows ⌝ }
-        ensures room { λ _. ⌜ (vec-len (now (self .exit) .words) ≡ vec-len (now (self .entry) .words)) × (vec-len (now (self .exit) .rows) ≡ vec-len (now (self .entry) .rows)) ⌝ }
-    {
-        let answer = self.answer(line);
-        add_answer(text, answer, self.words.as_slice())
-    }
+    ghost within: { symbols ≤ vec-len rows },
+    ghost few: { symbols ≤ symbol-room },
+    ghost fixed: { Fixed symbols (vec-items rows) },
 }

@@ -6,4 +6,5 @@ pub mod Kept
 pub mod Pushed
 pub mod Whole
 pub mod Sealed
+pub mod Covered
 pub mod Blind

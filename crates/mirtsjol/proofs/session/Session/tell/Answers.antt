@@ -22,4 +22,5 @@ returns c =
       symbols = ap (λ (j : Judged). j .symbols) (c .answer-answer .ensures .is);
       rows = ap (λ (j : Judged). j .rows) (c .answer-answer .ensures .is);
       room = search needs;
+      kept = c .answer-answer .ensures .kept;
     }
