@@ -9,6 +9,7 @@ ghost use Rattle.logic.specs.Limits.{symbols as symbol-room};
 ghost use Rattle.mirtsjol.specs.Verdicts.{after-answer};
 ghost use Rattle.mirtsjol.specs.Sessions.{word-room, judged-in};
 ghost use Rattle.mirtsjol.specs.Texts.{told};
+ghost use Rattle.mirtsjol.specs.Spelled.{Session-answers-what-is-spelled};
 use crate::judge::Answer;
 use crate::judge::judge;
 use crate::session::Session;
@@ -62,6 +63,7 @@ impl Session {
         ensures rows { λ _. ⌜ vec-items (now (self .exit) .rows) ≡ judged-in (now (self .entry)) (now (line .entry)) .rows ⌝ }
         ensures room { λ _. ⌜ (vec-len (now (self .exit) .words) ≡ vec-len (now (self .entry) .words)) × (vec-len (now (self .exit) .rows) ≡ vec-len (now (self .entry) .rows)) ⌝ }
         ensures kept { λ _. ⌜ take (now (self .entry) .symbols) (vec-items (now (self .exit) .rows)) ≡ take (now (self .entry) .symbols) (vec-items (now (self .entry) .rows)) ⌝ }
+        ensures spelled { λ _. ⌜ Session-answers-what-is-spelled (now (self .entry)) (now (line .entry)) ⌝ }
     {
         let answer = self.answer(line);
         add_answer(text, answer, self.words.as_slice())

@@ -1,9 +1,11 @@
 use mathlib.Core.Path.{ap}
+use native.Mathlib.Omega.{arith}
 use borrow.Author.Needs.{needs}
 use Rattle.std.specs.Of.String.{string-bytes}
 use Rattle.std.specs.Of.Vec.{vec-items}
 use Rattle.mirtsjol.specs.Verdicts.{Judged}
 use Rattle.mirtsjol.proofs.Stores.{told-as}
+use Rattle.mirtsjol.proofs.Spelled.{answers-what-is-spelled}
 use Rattle.mirtsjol.proofs.session.Session.tell.Needs as need
 
 pub returns : need.returns
@@ -23,4 +25,8 @@ returns c =
       rows = ap (λ (j : Judged). j .rows) (c .answer-answer .ensures .is);
       room = search needs;
       kept = c .answer-answer .ensures .kept;
+      spelled =
+          let s = c .args .self .now in
+          answers-what-is-spelled (c .args .line .now) (vec-items (s .words)) (s .symbols) (vec-items (s .rows))
+          (record { room = omega (arith, s .within); few = s .few; settled = s .fixed });
     }
