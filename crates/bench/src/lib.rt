@@ -1,4 +1,6 @@
 //! Inference rules behind one interface, and the bench: a row of them.
+#![tactic(auto)]
+
 mod bench;
 mod fault;
 mod question;

@@ -1,4 +1,6 @@
 //! The six inference rules on trees: what each answers, that what it allows follows, and what exactly it allows.
+#![tactic(auto)]
+
 ghost use Rattle.inference.specs.Soundness.{InstantiateIsSound, ResolveIsSound, ParamodIsSound, FlipIsSound, PropositionalIsSound, ReflexiveIsSound};
 ghost use Rattle.inference.specs.Exactness.{InstantiateIsExact, ResolveIsExact, ParamodIsExact, FlipIsExact, PropositionalIsExact, ReflexiveIsExact};
 ghost use Rattle.inference.specs.Order.{InstantiateAnswers, ResolveAnswers, ParamodAnswers, FlipAnswers, PropositionalAnswers, ReflexiveAnswers};

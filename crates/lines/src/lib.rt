@@ -1,4 +1,6 @@
 //! Lines of a book: rules and steps.
+#![tactic(auto)]
+
 mod justification;
 mod number;
 mod position;

@@ -1,4 +1,6 @@
 //! The language of clauses: symbols, words, and which words are those of a clause.
+#![tactic(auto)]
+
 mod directory;
 mod entry;
 mod head;

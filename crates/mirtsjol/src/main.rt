@@ -1,4 +1,6 @@
 //! Reads a book and answers each of its lines.
+#![tactic(auto)]
+
 mod judge;
 mod lines_of;
 mod session;

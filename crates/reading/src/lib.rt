@@ -1,4 +1,6 @@
 //! From a line's text to the words of terms and clauses.
+#![tactic(auto)]
+
 mod bindings;
 mod clause;
 mod cursor;

@@ -1,4 +1,6 @@
 //! The six inference rules on words, as a bench has them.
+#![tactic(auto)]
+
 mod bound;
 mod flip;
 mod instantiate;

@@ -1,4 +1,6 @@
 //! What a line spells, in the words of the grammar, and that reading finds exactly that.
+#![tactic(auto)]
+
 ghost use Rattle.spelling.specs.Spelling.{RulesAreReadAsSpelled, RulesAreSpelledOneWay, SpelledRulesAreLawful, LawfulClausesAreSpelled};
 ghost use Rattle.spelling.specs.StepSpelling.{StepsAreReadAsSpelled, StepsAreSpelledOneWay, SpelledStepsAreLawful};
 

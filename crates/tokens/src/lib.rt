@@ -1,4 +1,6 @@
 //! From a line to its tokens: the lexer, the forms of runs, and the refusals of a text.
+#![tactic(auto)]
+
 mod byte;
 mod fault;
 mod form;

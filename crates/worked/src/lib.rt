@@ -1,4 +1,6 @@
 //! Worked examples: small clauses, their words, and what their lines read as.
+#![tactic(auto)]
+
 ghost use Rattle.worked.specs.Trees.{WordsOfSmallClauses};
 ghost use Rattle.worked.specs.Texts.{LinesOfSmallClauses, LinesHaveTheWordsOfTrees, VariablesEndAt63, ReadAgainTheSame};
 
