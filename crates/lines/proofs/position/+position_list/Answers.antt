@@ -3,8 +3,8 @@ use Rattle.std.proofs.lemmas.List.{take_more_set}
 use Rattle.lines.proofs.Positions.{position_turns}
 use Rattle.lines.proofs.position.+position_list.Goals as goal
 
-pub returns-in-err-end : goal.returns-in-err-end
-returns-in-err-end t c = rw (position_turns c.args.line.now c.args.given (take c.args.given c.args.position.now) c.args.from c.requires) (search rules)
+pub returns-in_err-end : goal.returns-in_err-end
+returns-in_err-end t c = rw (position_turns c.args.line.now c.args.given (take c.args.given c.args.position.now) c.args.from c.requires) (search rules)
 
 pub returns-in-Closed : goal.returns-in-Closed
 returns-in-Closed t c = rw (position_turns c.args.line.now c.args.given (take c.args.given c.args.position.now) c.args.from c.requires) (search rules)

@@ -4,7 +4,7 @@ use Rattle.lines.proofs.rule.read_rule.Goals as goal
 pub returns : goal.returns
 returns c =
     record {
-      is = c.read-text.ensures;
-      kept = rule_kept _ _ _ _ c.read-text.result c.read-text.new.out c.read-text.new.symbols c.read-text.new.rows c.read-text.ensures;
-      counted = rule_counted _ _ _ _ c.read-text.result c.read-text.new.out c.read-text.new.symbols c.read-text.new.rows c.read-text.ensures;
+      is = c.read_text.ensures;
+      kept = rule_kept _ _ _ _ c.read_text.result c.read_text.new.out c.read_text.new.symbols c.read_text.new.rows c.read_text.ensures;
+      counted = rule_counted _ _ _ _ c.read_text.result c.read_text.new.out c.read_text.new.symbols c.read_text.new.rows c.read_text.ensures;
     }

@@ -6,7 +6,7 @@ pub returns : goal.returns
 returns g c =
     record {
       is = search rules;
-      usable = c.read-text.ensures.usable;
-      counted = step_counted _ _ _ _ _ c.read-text.result c.read-text.new.justification c.read-text.new.out c.read-text.new.symbols c.read-text.new.rows c.read-text.ensures.is;
-      kept = step_kept _ _ _ _ _ c.read-text.result c.read-text.new.justification c.read-text.new.out c.read-text.new.symbols c.read-text.new.rows c.read-text.ensures.is;
+      usable = c.read_text.ensures.usable;
+      counted = step_counted _ _ _ _ _ c.read_text.result c.read_text.new.justification c.read_text.new.out c.read_text.new.symbols c.read_text.new.rows c.read_text.ensures.is;
+      kept = step_kept _ _ _ _ _ c.read_text.result c.read_text.new.justification c.read_text.new.out c.read_text.new.symbols c.read_text.new.rows c.read_text.ensures.is;
     }

@@ -2,33 +2,33 @@ use Rattle.std.proofs.Common.{rules}
 use Rattle.lines.specs.Steps.{step_text}
 use Rattle.lines.proofs.step.read_text.Goals as goal
 
-pub returns-in-err-inner : goal.returns-in-err-inner
+pub returns-in_err-inner : goal.returns-in_err-inner
 unfolding step_text
-returns-in-err-inner g c = search rules
+returns-in_err-inner g c = search rules
 
-pub returns-in-err-named : goal.returns-in-err-named
+pub returns-in_err-named : goal.returns-in_err-named
 unfolding step_text
-returns-in-err-named g c = search rules
+returns-in_err-named g c = search rules
 
-pub returns-in-err-step : goal.returns-in-err-step
+pub returns-in_err-step : goal.returns-in_err-step
 unfolding step_text
-returns-in-err-step g c = search rules
+returns-in_err-step g c = search rules
 
-pub returns-in-err-keyword : goal.returns-in-err-keyword
+pub returns-in_err-keyword : goal.returns-in_err-keyword
 unfolding step_text
-returns-in-err-keyword g c = search rules
+returns-in_err-keyword g c = search rules
 
-pub returns-in-err-clause : goal.returns-in-err-clause
+pub returns-in_err-clause : goal.returns-in_err-clause
 unfolding step_text
-returns-in-err-clause g c = search rules
+returns-in_err-clause g c = search rules
 
-pub returns-in-err-end : goal.returns-in-err-end
+pub returns-in_err-end : goal.returns-in_err-end
 unfolding step_text
-returns-in-err-end g c = search rules
+returns-in_err-end g c = search rules
 
-pub returns-in-err-check-end : goal.returns-in-err-check-end
+pub returns-in_err-check_end : goal.returns-in_err-check_end
 unfolding step_text
-returns-in-err-check-end g c = search rules
+returns-in_err-check_end g c = search rules
 
 pub returns : goal.returns
 unfolding step_text

@@ -8,13 +8,13 @@ returns-then-i-words t c = spells_none c.args.rows.now c.args.most c.args.words.
 pub returns-then-most-eq0 : goal.returns-then-most-eq0
 returns-then-most-eq0 t c = spells_full c.args.rows.now c.args.most c.args.words.now c.args.i (omega arith) (omega arith)
 
-pub returns-in-default : goal.returns-in-default
-returns-in-default t c = spells_headless c.args.rows.now c.args.most c.args.words.now c.args.i (omega arith) c.in-default.ensures
+pub returns-in_default : goal.returns-in_default
+returns-in_default t c = spells_headless c.args.rows.now c.args.most c.args.words.now c.args.i (omega arith) c.in_default.ensures
 
 pub returns-in-None : goal.returns-in-None
 returns-in-None t c =
     spells_broken c.args.rows.now c.args.most c.args.words.now c.args.i (omega arith) c.in-Some.n c.in-Some.ensures c.in-None.ensures
 
-pub returns-in-Some-lawful-end : goal.returns-in-Some-lawful-end
-returns-in-Some-lawful-end t c =
-    spells_more c.args.rows.now c.args.most c.args.words.now c.args.i (omega arith) c.in-Some.n c.in-Some-lawful-end.j c.clause-from.result (omega arith) c.in-Some.ensures c.in-Some-lawful-end.ensures.2 c.clause-from.ensures
+pub returns-in-Some-lawful_end : goal.returns-in-Some-lawful_end
+returns-in-Some-lawful_end t c =
+    spells_more c.args.rows.now c.args.most c.args.words.now c.args.i (omega arith) c.in-Some.n c.in-Some-lawful_end.j c.clause_from.result (omega arith) c.in-Some.ensures c.in-Some-lawful_end.ensures.2 c.clause_from.ensures

@@ -1,4 +1,4 @@
 use Rattle.logic.proofs.lawful.+clause_from.Given as goal
 
-abbrev pub decreases-clause-from : goal.decreases-clause-from
-decreases-clause-from l = l.most
+abbrev pub decreases-clause_from : goal.decreases-clause_from
+decreases-clause_from l = l.most

@@ -13,21 +13,21 @@ returns-then-d-eq0 t c rest = too_deep c.args.rows.now c.args.d c.args.n (drop c
 
 pub returns-then-w-lt-VARIABLES : goal.returns-then-w-lt-VARIABLES
 returns-then-w-lt-VARIABLES t c =
-    ends_var c.args.rows.now c.args.d c.args.n c.args.words.now c.args.i (omega arith) (omega arith) c.lawful-end.result (omega arith) (omega arith) c.lawful-end.ensures
+    ends_var c.args.rows.now c.args.d c.args.n c.args.words.now c.args.i (omega arith) (omega arith) c.lawful_end.result (omega arith) (omega arith) c.lawful_end.ensures
 
-pub returns-then-w-lt-SYMBOL-WORD : goal.returns-then-w-lt-SYMBOL-WORD
-returns-then-w-lt-SYMBOL-WORD t c =
-    ends_between c.args.rows.now c.args.d c.args.n c.args.words.now c.args.i (omega arith) (omega arith) c.if-w-lt-VARIABLES.false c.if-w-lt-SYMBOL-WORD.true
+pub returns-then-w-lt-SYMBOL_WORD : goal.returns-then-w-lt-SYMBOL_WORD
+returns-then-w-lt-SYMBOL_WORD t c =
+    ends_between c.args.rows.now c.args.d c.args.n c.args.words.now c.args.i (omega arith) (omega arith) c.if-w-lt-VARIABLES.false c.if-w-lt-SYMBOL_WORD.true
 
-pub returns-in-default : goal.returns-in-default
-returns-in-default t c =
-    ends_unknown c.args.rows.now c.args.d c.args.n c.args.words.now c.args.i (omega arith) (omega arith) c.if-w-lt-SYMBOL-WORD.false c.in-default.ensures
+pub returns-in_default : goal.returns-in_default
+returns-in_default t c =
+    ends_unknown c.args.rows.now c.args.d c.args.n c.args.words.now c.args.i (omega arith) (omega arith) c.if-w-lt-SYMBOL_WORD.false c.in_default.ensures
 
 pub returns-in-None : goal.returns-in-None
 returns-in-None t c =
-    ends_inner c.args.rows.now c.args.d c.args.n c.args.words.now c.args.i (omega arith) (omega arith) c.in-Some.arity c.if-w-lt-SYMBOL-WORD.false c.in-Some.ensures c.in-None.ensures
+    ends_inner c.args.rows.now c.args.d c.args.n c.args.words.now c.args.i (omega arith) (omega arith) c.in-Some.arity c.if-w-lt-SYMBOL_WORD.false c.in-Some.ensures c.in-None.ensures
 
-pub returns-in-Some-lawful-end : goal.returns-in-Some-lawful-end
-returns-in-Some-lawful-end t c =
-    let h = c.in-Some-lawful-end.ensures in
-    ends_symbol c.args.rows.now c.args.d c.args.n c.args.words.now c.args.i (omega arith) (omega arith) c.in-Some.arity c.in-Some-lawful-end.j c.lawful-end-in-Some-lawful-end.result (omega arith) c.if-w-lt-SYMBOL-WORD.false c.in-Some.ensures h.0 h.2 c.lawful-end-in-Some-lawful-end.ensures
+pub returns-in-Some-lawful_end : goal.returns-in-Some-lawful_end
+returns-in-Some-lawful_end t c =
+    let h = c.in-Some-lawful_end.ensures in
+    ends_symbol c.args.rows.now c.args.d c.args.n c.args.words.now c.args.i (omega arith) (omega arith) c.in-Some.arity c.in-Some-lawful_end.j c.lawful_end-in-Some-lawful_end.result (omega arith) c.if-w-lt-SYMBOL_WORD.false c.in-Some.ensures h.0 h.2 c.lawful_end-in-Some-lawful_end.ensures

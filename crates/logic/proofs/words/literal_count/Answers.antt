@@ -6,14 +6,14 @@ use Rattle.logic.proofs.words.literal_count.Goals as goal
 
 pub loop-place-smaller : goal.loop-place-smaller
 loop-place-smaller c =
-    omega (arith, goes_on c.args.rows.now c.args.words.now c.loop-place.place c.terms-end-place.result (omega arith) c.terms-end-place.ensures.place)
+    omega (arith, goes_on c.args.rows.now c.args.words.now c.loop-place.place c.terms_end-place.result (omega arith) c.terms_end-place.ensures.place)
 
 pub loop-place-preserved : goal.loop-place-preserved
 loop-place-preserved c =
-    let x : c.loop-place.place < c.terms-end-place.result =
-    goes_on c.args.rows.now c.args.words.now c.loop-place.place c.terms-end-place.result (omega arith) c.terms-end-place.ensures.place in
-    let y = heads_on (arities c.args.rows.now) c.args.words.now c.loop-place.place c.terms-end-place.result (omega arith) c.terms-end-place.ensures.place in
-    (c.terms-end-place.ensures.within.1 (omega arith), omega arith, omega (arith, c.loop-place.invariant.2))
+    let x : c.loop-place.place < c.terms_end-place.result =
+    goes_on c.args.rows.now c.args.words.now c.loop-place.place c.terms_end-place.result (omega arith) c.terms_end-place.ensures.place in
+    let y = heads_on (arities c.args.rows.now) c.args.words.now c.loop-place.place c.terms_end-place.result (omega arith) c.terms_end-place.ensures.place in
+    (c.terms_end-place.ensures.within.1 (omega arith), omega arith, omega (arith, c.loop-place.invariant.2))
 
 pub returns : goal.returns
 returns c =

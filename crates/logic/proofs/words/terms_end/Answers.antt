@@ -8,8 +8,8 @@ pub loop-due-preserved : goal.loop-due-preserved
 loop-due-preserved c = (
   omega arith,
   λ h. omega arith,
-  walk_step (arities c.args.rows.now) c.args.words.now 18446744073709551615 c.loop-due.place c.loop-due.due c.saturating-add-due.result c.takes.result _
-      (omega arith) (omega arith) (omega arith) c.takes.ensures c.saturating-add-due.ensures c.loop-due.invariant.2,
+  walk_step (arities c.args.rows.now) c.args.words.now 18446744073709551615 c.loop-due.place c.loop-due.due c.saturating_add-due.result c.takes.result _
+      (omega arith) (omega arith) (omega arith) c.takes.ensures c.saturating_add-due.ensures c.loop-due.invariant.2,
 )
 
 pub returns-else-place-words : goal.returns-else-place-words

@@ -9,5 +9,5 @@ slice-bounds-result-end c =
 pub returns : goal.returns
 returns c =
     let inside = end_within c.args.input.now c.args.from (omega arith) in
-    let on = behind_on c.args.input.now c.args.from c.line-end-end.result (omega arith) (omega arith) (omega arith) in
+    let on = behind_on c.args.input.now c.args.from c.line_end-end.result (omega arith) (omega arith) (omega arith) in
     record { is = search rules; on = omega (arith, c.behind.ensures) }

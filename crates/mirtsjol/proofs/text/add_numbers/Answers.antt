@@ -4,7 +4,7 @@ use Rattle.mirtsjol.proofs.text.add_numbers.Goals as goal
 
 pub loop-number-preserved : goal.loop-number-preserved
 loop-number-preserved c =
-    spaced_more (string_bytes c.loop-number.text) _ _ _ _ c.loop-number-test.true c.in-ok-write.ensures.bytes c.loop-number.invariant
+    spaced_more (string_bytes c.loop-number.text) _ _ _ _ c.loop-number-test.true c.in_ok-write.ensures.bytes c.loop-number.invariant
 
 pub returns : goal.returns
 returns c =

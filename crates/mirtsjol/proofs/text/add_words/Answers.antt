@@ -8,11 +8,11 @@ returns c =
     three_parts
     (string_bytes c.args.text.now)
     (string_bytes c.write.new.self)
-    (string_bytes c.add-numbers.new.text)
+    (string_bytes c.add_numbers.new.text)
     _
     (codes "words")
     (spaced c.args.words.now)
     (codes "\n")
-    c.in-ok-write.ensures.bytes
-    c.in-ok-add-numbers.ensures
-    c.in-ok-writeln.ensures.bytes
+    c.in_ok-write.ensures.bytes
+    c.in_ok-add_numbers.ensures
+    c.in_ok-writeln.ensures.bytes

@@ -4,8 +4,8 @@ use Rattle.reading.proofs.Blind.{bindings_blind}
 use Rattle.reading.proofs.Pushed.{filled_none}
 use Rattle.reading.proofs.bindings.read_bindings.Goals as goal
 
-pub binding-list-requires : goal.binding-list-requires
-binding-list-requires c =
+pub binding_list-requires : goal.binding_list-requires
+binding_list-requires c =
     record {
       purpose = refl;
       filled = filled_none c.args.bindings.now;
@@ -15,5 +15,5 @@ binding-list-requires c =
 pub returns : goal.returns
 returns c =
     let long : length c.args.bindings.now.terms ≡ limits.binding_words = omega arith in
-    let blind = bindings_blind c.args.line.now (limits.bindings + 1) c.in-ok-inner.inner c.args.symbols.now c.args.rows.now c.args.bindings.now.terms long in
+    let blind = bindings_blind c.args.line.now (limits.bindings + 1) c.in_ok-inner.inner c.args.symbols.now c.args.rows.now c.args.bindings.now.terms long in
     search rules

@@ -3,14 +3,14 @@ use Rattle.reading.specs.States.{state}
 use Rattle.reading.proofs.Lists.{literals_turn}
 use Rattle.reading.proofs.clause.+literals.Goals as goal
 
-pub returns-in-err-end : goal.returns-in-err-end
-returns-in-err-end t c = rw (literals_turn c.args.line.now c.args.given (state c.args.from c.args.out.now c.args.symbols.now c.args.rows.now) c.requires.given) (search rules)
+pub returns-in_err-end : goal.returns-in_err-end
+returns-in_err-end t c = rw (literals_turn c.args.line.now c.args.given (state c.args.from c.args.out.now c.args.symbols.now c.args.rows.now) c.requires.given) (search rules)
 
-pub returns-in-err-at : goal.returns-in-err-at
-returns-in-err-at t c = rw (literals_turn c.args.line.now c.args.given (state c.args.from c.args.out.now c.args.symbols.now c.args.rows.now) c.requires.given) (search rules)
+pub returns-in_err-at : goal.returns-in_err-at
+returns-in_err-at t c = rw (literals_turn c.args.line.now c.args.given (state c.args.from c.args.out.now c.args.symbols.now c.args.rows.now) c.requires.given) (search rules)
 
 pub returns-in-Closed : goal.returns-in-Closed
 returns-in-Closed t c = rw (literals_turn c.args.line.now c.args.given (state c.args.from c.args.out.now c.args.symbols.now c.args.rows.now) c.requires.given) (search rules)
 
-pub returns-in-ok-at : goal.returns-in-ok-at
-returns-in-ok-at t c = rw (literals_turn c.args.line.now c.args.given (state c.args.from c.args.out.now c.args.symbols.now c.args.rows.now) c.requires.given) (search rules)
+pub returns-in_ok-at : goal.returns-in_ok-at
+returns-in_ok-at t c = rw (literals_turn c.args.line.now c.args.given (state c.args.from c.args.out.now c.args.symbols.now c.args.rows.now) c.requires.given) (search rules)

@@ -2,14 +2,14 @@ use Rattle.std.proofs.Common.{rules}
 use Rattle.reading.specs.Clauses.{literal}
 use Rattle.reading.proofs.clause.literal.Goals as goal
 
-pub returns-in-err-t : goal.returns-in-err-t
+pub returns-in_err-t : goal.returns-in_err-t
 unfolding literal
-returns-in-err-t c = search rules
+returns-in_err-t c = search rules
 
 pub returns-in-Name : goal.returns-in-Name
 unfolding literal
 returns-in-Name c = search rules
 
-pub returns-in-default : goal.returns-in-default
+pub returns-in_default : goal.returns-in_default
 unfolding literal
-returns-in-default c = search rules
+returns-in_default c = search rules

@@ -6,14 +6,14 @@ pub returns : goal.returns
 unfolding sides
 returns c = search rules
 
-pub returns-in-err-left : goal.returns-in-err-left
+pub returns-in_err-left : goal.returns-in_err-left
 unfolding sides
-returns-in-err-left c = search rules
+returns-in_err-left c = search rules
 
-pub returns-in-err-right : goal.returns-in-err-right
+pub returns-in_err-right : goal.returns-in_err-right
 unfolding sides
-returns-in-err-right c = search rules
+returns-in_err-right c = search rules
 
-pub returns-in-err-end : goal.returns-in-err-end
+pub returns-in_err-end : goal.returns-in_err-end
 unfolding sides
-returns-in-err-end c = search rules
+returns-in_err-end c = search rules

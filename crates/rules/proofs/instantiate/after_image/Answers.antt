@@ -10,16 +10,16 @@ returns-in-Some c =
       within = within c.args.conclusion.now _ c.args.at c.after.result c.after.ensures;
       image = λ σ s.
           subst (λ (xs : List ℕ). Behind xs c.args.conclusion.now c.args.at c.after.result)
-          (c.bound-words.ensures ∙ bound_becomes c.args.bindings.now _ c.bound-variables.ensures.are c.bound-variables.ensures.room.variables σ s c.args.word c.in-Some.k c.in-Some.ensures)
+          (c.bound_words.ensures ∙ bound_becomes c.args.bindings.now _ c.bound_variables.ensures.are c.bound_variables.ensures.room.variables σ s c.args.word c.in-Some.k c.in-Some.ensures)
           c.after.ensures;
     }
 
 pub returns-in-None : goal.returns-in-None
 returns-in-None c =
     record {
-      within = within c.args.conclusion.now (c.args.word ∷ []) c.args.at c.after-word.result c.after-word.ensures;
+      within = within c.args.conclusion.now (c.args.word ∷ []) c.args.at c.after_word.result c.after_word.ensures;
       image = λ σ s.
-          subst (λ (xs : List ℕ). Behind xs c.args.conclusion.now c.args.at c.after-word.result)
-          (other_stays c.args.bindings.now _ c.bound-variables.ensures.are c.bound-variables.ensures.room.variables σ s c.args.word c.in-None.ensures)
-          c.after-word.ensures;
+          subst (λ (xs : List ℕ). Behind xs c.args.conclusion.now c.args.at c.after_word.result)
+          (other_stays c.args.bindings.now _ c.bound_variables.ensures.are c.bound_variables.ensures.room.variables σ s c.args.word c.in-None.ensures)
+          c.after_word.ensures;
     }

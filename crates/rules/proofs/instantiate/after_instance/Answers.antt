@@ -7,19 +7,19 @@ use Rattle.rules.proofs.instantiate.after_instance.Goals as goal
 pub loop-word-init : goal.loop-word-init
 loop-word-init c = (omega arith, λ σ s r b. b)
 
-pub after-image-requires : goal.after-image-requires
-after-image-requires c = c.loop-word.invariant.0
+pub after_image-requires : goal.after_image-requires
+after_image-requires c = c.loop-word.invariant.0
 
-pub returns-in-err-at : goal.returns-in-err-at
-returns-in-err-at c σ s =
-    none_found c.args.conclusion.now (images σ c.args.premise.now) 0 c.from-residual.result c.from-residual.ensures
-    (compared_stops σ c.args.premise.now c.args.conclusion.now c.loop-word.word-index c.loop-word.at (c.loop-word.invariant.1 σ s) (omega arith) (c.in-err-at.ensures.image σ s))
+pub returns-in_err-at : goal.returns-in_err-at
+returns-in_err-at c σ s =
+    none_found c.args.conclusion.now (images σ c.args.premise.now) 0 c.from_residual.result c.from_residual.ensures
+    (compared_stops σ c.args.premise.now c.args.conclusion.now c.loop-word.word-index c.loop-word.at (c.loop-word.invariant.1 σ s) (omega arith) (c.in_err-at.ensures.image σ s))
 
 pub loop-word-preserved : goal.loop-word-preserved
 loop-word-preserved c = (
-  c.in-ok-at.ensures.within,
+  c.in_ok-at.ensures.within,
   λ σ s.
-      compared_more σ c.args.premise.now c.args.conclusion.now c.loop-word.word-index c.loop-word.at (c.loop-word.invariant.1 σ s) c.in-ok-at.at (omega arith) (c.in-ok-at.ensures.image σ s),
+      compared_more σ c.args.premise.now c.args.conclusion.now c.loop-word.word-index c.loop-word.at (c.loop-word.invariant.1 σ s) c.in_ok-at.at (omega arith) (c.in_ok-at.ensures.image σ s),
 )
 
 pub returns : goal.returns

@@ -7,9 +7,9 @@ use Rattle.rules.proofs.sides.right_side.Goals as goal
 pub returns : goal.returns
 returns c =
     record {
-      within = (omega (arith, c.terms-end.ensures.within.0), c.terms-end.ensures.within.1 (omega arith));
+      within = (omega (arith, c.terms_end.ensures.within.0), c.terms_end.ensures.within.1 (omega arith));
       sides = λ s rest g e.
-          parted c.args.literal.now (term_words s) rest c.terms-end.result e
-          (behind_one c.args.literal.now s rest 1 c.terms-end.result e
-          (c.terms-end.ensures.terms (s ∷ₜ []ₜ) rest (g, tt) refl));
+          parted c.args.literal.now (term_words s) rest c.terms_end.result e
+          (behind_one c.args.literal.now s rest 1 c.terms_end.result e
+          (c.terms_end.ensures.terms (s ∷ₜ []ₜ) rest (g, tt) refl));
     }

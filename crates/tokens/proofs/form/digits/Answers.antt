@@ -34,8 +34,8 @@ loop-b-preserved c =
       omega arith,
     )
 
-pub returns-else-is-empty : goal.returns-else-is-empty
-returns-else-is-empty c =
+pub returns-else-is_empty : goal.returns-else-is_empty
+returns-else-is_empty c =
     let some : 1 ≤ length c.args.run.now = grind (arith, nat_tests) in
     let none = prefix_len-drop_all digit c.args.run.now c.loop-b.b-index (omega arith) in
     let d : digits c.args.run.now ≡ true = digits_yes c.args.run.now some (omega arith) in

@@ -3,7 +3,7 @@ use Rattle.tokens.proofs.Pasts.{past_on, past_within, part_some}
 use Rattle.tokens.specs.declared.byte.Class.TheVariants.{Run}
 use Rattle.tokens.specs.Tokens.{lex}
 use Rattle.tokens.proofs.token.next.Goals as goal
-use Rattle.tokens.proofs.token.next.Goals.{in-40, in-41, in-61, in-default}
+use Rattle.tokens.proofs.token.next.Goals.{in-40, in-41, in-61, in_default}
 
 pub slice-bounds-class-end : goal.slice-bounds-class-end
 slice-bounds-class-end c =
@@ -25,7 +25,7 @@ returns c =
         | in-40 w ↦ omega (arith, w.end-is)
         | in-41 w ↦ omega (arith, w.end-is)
         | in-61 w ↦ omega (arith, w.end-is)
-        | in-default w ↦ omega (arith, w.end-is, w.past-end.ensures, past_on Run _ _ inside (sym w.if-is.ensures), past_within Run c.args.line.now c.past-place.result (omega arith))
+        | in_default w ↦ omega (arith, w.end-is, w.past-end.ensures, past_on Run _ _ inside (sym w.if-is.ensures), past_within Run c.args.line.now c.past-place.result (omega arith))
       ];
     }
 
@@ -33,6 +33,6 @@ pub returns-then-place-line : goal.returns-then-place-line
 unfolding lex
 returns-then-place-line c = search rules
 
-pub returns-in-default-2 : goal.returns-in-default-2
+pub returns-in_default-2 : goal.returns-in_default-2
 unfolding lex
-returns-in-default-2 c = search rules
+returns-in_default-2 c = search rules

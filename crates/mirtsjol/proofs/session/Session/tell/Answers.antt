@@ -8,15 +8,15 @@ pub returns : goal.returns
 returns c =
     record {
       text =
-          told_as c.add-answer.result
-          (string_bytes c.add-answer.new.text)
+          told_as c.add_answer.result
+          (string_bytes c.add_answer.new.text)
           (string_bytes c.args.text.now)
           c.answer-answer.result
           c.answer-answer.new.self.symbols
           (vec_items c.answer-answer.new.self.rows)
-          c.as-slice.ensures.value
+          c.as_slice.ensures.value
           c.answer-answer.ensures.is
-          c.add-answer.ensures;
+          c.add_answer.ensures;
       symbols = ap (λ (j : Judged). j.symbols) c.answer-answer.ensures.is;
       rows = ap (λ (j : Judged). j.rows) c.answer-answer.ensures.is;
       room = search rules;
