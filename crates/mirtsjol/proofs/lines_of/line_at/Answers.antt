@@ -2,8 +2,8 @@ use Rattle.std.proofs.Common.{arith, rules}
 use Rattle.mirtsjol.proofs.Ends.{end_within, behind_on}
 use Rattle.mirtsjol.proofs.lines_of.line_at.Goals as goal
 
-pub slice-bounds-result-end : goal.slice-bounds-result-end
-slice-bounds-result-end c =
+pub slice_bounds-result-end : goal.slice_bounds-result-end
+slice_bounds-result-end c =
     let inside = end_within c.args.input.now c.args.from (omega arith) in search rules
 
 pub returns : goal.returns

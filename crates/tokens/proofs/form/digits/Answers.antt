@@ -14,11 +14,11 @@ returns-then-not-is c =
     let d : digits c.args.run.now ≡ false = digits_no c.args.run.now (omega arith) in
     rw d
 
-pub overflow-mul-n : goal.overflow-mul-n
-overflow-mul-n c = omega (arith, ten_small c.loop-b.b-index (omega arith))
+pub overflow_mul-n : goal.overflow_mul-n
+overflow_mul-n c = omega (arith, ten_small c.loop-b.b-index (omega arith))
 
-pub overflow-add-n : goal.overflow-add-n
-overflow-add-n c =
+pub overflow_add-n : goal.overflow_add-n
+overflow_add-n c =
     let t : digit (get_or c.args.run.now c.loop-b.b-index 0) ≡ true = cc in
     let b = is_digit (get_or c.args.run.now c.loop-b.b-index 0) t in
     omega (arith, ten_small c.loop-b.b-index (omega arith))

@@ -5,8 +5,8 @@ use Rattle.tokens.specs.Tokens.{lex}
 use Rattle.tokens.proofs.token.next.Goals as goal
 use Rattle.tokens.proofs.token.next.Goals.{in-40, in-41, in-61, in_default}
 
-pub slice-bounds-class-end : goal.slice-bounds-class-end
-slice-bounds-class-end c =
+pub slice_bounds-class-end : goal.slice_bounds-class-end
+slice_bounds-class-end c =
     let on = past_on Run _ _ c.if-place-line.false (sym c.if-is.ensures) in
     let inside = past_within Run c.args.line.now c.past-place.result (omega arith) in
     search rules

@@ -4,8 +4,8 @@ use Rattle.mirtsjol.proofs.Stores.{stored}
 use Rattle.mirtsjol.proofs.Kept.{Keeps, answer_keeps}
 use Rattle.mirtsjol.proofs.session.Session.answer.Goals as goal
 
-pub invariant-of-self : goal.invariant-of-self
-invariant-of-self c =
+pub invariant_of-self : goal.invariant_of-self
+invariant_of-self c =
     let s = c.args.self.now in
     let short : s.symbols ≤ length s.rows.items = omega (arith, s.within) in
     let k =
