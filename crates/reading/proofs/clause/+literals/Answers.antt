@@ -6,11 +6,11 @@ use Rattle.reading.proofs.clause.+literals.Goals as goal
 pub returns-in_err-end : goal.returns-in_err-end
 returns-in_err-end t c = rw (literals_turn c.args.line.now c.args.given (state c.args.from c.args.out.now c.args.symbols.now c.args.rows.now) c.requires.given) (search rules)
 
-pub returns-in_err-at : goal.returns-in_err-at
-returns-in_err-at t c = rw (literals_turn c.args.line.now c.args.given (state c.args.from c.args.out.now c.args.symbols.now c.args.rows.now) c.requires.given) (search rules)
+pub returns-in_err-at-in-Opened : goal.returns-in_err-at-in-Opened
+returns-in_err-at-in-Opened t c = rw (literals_turn c.args.line.now c.args.given (state c.args.from c.args.out.now c.args.symbols.now c.args.rows.now) c.requires.given) (search rules)
 
 pub returns-in-Closed : goal.returns-in-Closed
 returns-in-Closed t c = rw (literals_turn c.args.line.now c.args.given (state c.args.from c.args.out.now c.args.symbols.now c.args.rows.now) c.requires.given) (search rules)
 
-pub returns-in_ok-at : goal.returns-in_ok-at
-returns-in_ok-at t c = rw (literals_turn c.args.line.now c.args.given (state c.args.from c.args.out.now c.args.symbols.now c.args.rows.now) c.requires.given) (search rules)
+pub returns-in_ok-at-in-Opened : goal.returns-in_ok-at-in-Opened
+returns-in_ok-at-in-Opened t c = rw (literals_turn c.args.line.now c.args.given (state c.args.from c.args.out.now c.args.symbols.now c.args.rows.now) c.requires.given) (search rules)

@@ -38,14 +38,14 @@ arguments-returns-in-Closed t c = rw (args_turn c.args.line.now (nest c.args.lin
 pub arguments-returns-in-Variable : goal.arguments-returns-in-Variable
 arguments-returns-in-Variable t c = rw (args_turn c.args.line.now (nest c.args.line.now c.args.room) (eqb c.args.room 0) c.args.given (state c.args.from c.args.out.now c.args.symbols.now c.args.rows.now) c.requires.given) (search rules)
 
-pub arguments-returns-in_err-next : goal.arguments-returns-in_err-next
-arguments-returns-in_err-next t c =
+pub arguments-returns-in_err-next-in-Opened : goal.arguments-returns-in_err-next-in-Opened
+arguments-returns-in_err-next-in-Opened t c =
     let on = rw c.in-Opened.is at c.in_ok-end.ensures.on in
     let inner = nest_application c.args.line.now c.args.room (moved (state c.args.from c.args.out.now c.args.symbols.now c.args.rows.now) c.in-Opened.end) on.2 in
     rw (args_turn c.args.line.now (nest c.args.line.now c.args.room) (eqb c.args.room 0) c.args.given (state c.args.from c.args.out.now c.args.symbols.now c.args.rows.now) c.requires.given) (search rules)
 
-pub arguments-returns-in_ok-next : goal.arguments-returns-in_ok-next
-arguments-returns-in_ok-next t c =
+pub arguments-returns-in_ok-next-in-Opened : goal.arguments-returns-in_ok-next-in-Opened
+arguments-returns-in_ok-next-in-Opened t c =
     let on = rw c.in-Opened.is at c.in_ok-end.ensures.on in
     let inner = nest_application c.args.line.now c.args.room (moved (state c.args.from c.args.out.now c.args.symbols.now c.args.rows.now) c.in-Opened.end) on.2 in
     rw (args_turn c.args.line.now (nest c.args.line.now c.args.room) (eqb c.args.room 0) c.args.given (state c.args.from c.args.out.now c.args.symbols.now c.args.rows.now) c.requires.given) (search rules)
