@@ -73,7 +73,7 @@ fn read_few(line: &[u8], from: usize, wanted: u32) -> Result<Few, Fault>
 
 /// The keyword that is due.
 fn read_keyword<'a, S: Shapes>(line: &'a [u8], bench: &S, from: usize) -> Result<Keyword<'a>, Fault>
-    ensures { after_keyword result ≡ keyword_at line.now (shapes bench.now) from }
+    ensures { after_keyword result ≡ keyword_at line.now (S.shapes bench.now) from }
 {
     let t = next(line, from)?;
     let run = keyword(t.token, t.place)?;
@@ -89,7 +89,7 @@ fn read_keyword<'a, S: Shapes>(line: &'a [u8], bench: &S, from: usize) -> Result
 
 /// The keyword that is due, and behind it as many premises and literal numbers as its shape says.
 fn read_cited<'a, S: Shapes>(line: &'a [u8], bench: &S, from: usize) -> Result<Cited<'a>, Fault>
-    ensures { after_cited result ≡ cited_at line.now (shapes bench.now) from }
+    ensures { after_cited result ≡ cited_at line.now (S.shapes bench.now) from }
 {
     let keyword = read_keyword(line, bench, from)?;
     let premises = read_few(line, keyword.end, keyword.shape.premises)?;
@@ -130,7 +130,7 @@ pub fn read_justification<'a, S: Shapes>(
     justification: &mut Justification,
     from: usize,
 ) -> Result<Keyword<'a>, Fault>
-    ensures is { after_justification result justification.new symbols.new rows.new ≡ justification_at line.now (shapes bench.now) from symbols.old rows.old }
+    ensures is { after_justification result justification.new symbols.new rows.new ≡ justification_at line.now (S.shapes bench.now) from symbols.old rows.old }
     ensures usable { OnOk result (Usable justification.new) }
 {
     let inner = open(line, from)?;

@@ -31,7 +31,7 @@ fn read_text<'a, S: Shapes>(
     out: &mut [u32],
     justification: &mut Justification,
 ) -> Result<StepLine<'a>, Fault>
-    ensures is { after_step result justification.new out.new symbols.new rows.new ≡ step_text line.now (shapes bench.now) out.old symbols.old rows.old }
+    ensures is { after_step result justification.new out.new symbols.new rows.new ≡ step_text line.now (S.shapes bench.now) out.old symbols.old rows.old }
     ensures usable { OnOk result (Usable justification.new) }
 {
     let inner = open(line, 0)?;
@@ -60,7 +60,7 @@ pub fn read_step<'a, S: Shapes>(
     out: &mut [u32],
     justification: &mut Justification,
 ) -> Result<StepLine<'a>, Fault>
-    ensures is { after_step result justification.new out.new symbols.new rows.new ≡ step_line line.now (shapes bench.now) out.old symbols.old rows.old }
+    ensures is { after_step result justification.new out.new symbols.new rows.new ≡ step_line line.now (S.shapes bench.now) out.old symbols.old rows.old }
     ensures usable { OnOk result (Usable justification.new) }
     ensures counted { symbols.new ≡ symbols.old }
     ensures kept { Fixed symbols.old rows.old → rows.new ≡ rows.old }
