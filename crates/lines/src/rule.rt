@@ -1,6 +1,6 @@
 //! Rule lines.
 ghost use Rattle.std.specs.Prelude.{◌≡◌, ◌≤◌, length, take};
-ghost use Rattle.logic.specs.Limits.{symbols as symbol-room};
+ghost use Rattle.logic.specs.Limits.{symbols as symbol_room};
 ghost use Rattle.reading.specs.Fixed.{Fixed};
 ghost use Rattle.lines.specs.Rules.{after_rule, rule_line};
 
@@ -50,7 +50,7 @@ pub fn read_rule(
 ) -> Result<RuleLine, Fault>
     ensures is { after_rule result out.new symbols.new rows.new ≡ rule_line line.now out.old symbols.old rows.old }
     ensures kept { Fixed symbols.old rows.old → take symbols.old rows.new ≡ take symbols.old rows.old }
-    ensures counted { (symbols.old ≤ symbols.new) × ((symbols.old ≤ length rows.old) × (symbols.old ≤ symbol-room) → (symbols.new ≤ length rows.new) × (symbols.new ≤ symbol-room)) }
+    ensures counted { (symbols.old ≤ symbols.new) × ((symbols.old ≤ length rows.old) × (symbols.old ≤ symbol_room) → (symbols.new ≤ length rows.new) × (symbols.new ≤ symbol_room)) }
 {
     read_text(line, rows, symbols, out)
 }

@@ -1,6 +1,6 @@
 //! The lines of an input.
 ghost use Rattle.std.specs.Prelude.{◌≡◌, ◌<◌, ◌≤◌, length, IfSome};
-ghost use Rattle.mirtsjol.specs.Cuts.{line_end as lineEnd, behind as behindOf, line_at as line_at, cut};
+ghost use Rattle.mirtsjol.specs.Cuts.{line_end as lineEnd, behind as behindOf, line_at, cut};
 
 /// The byte that ends a line.
 const NEWLINE: u8 = 10;

@@ -12,6 +12,7 @@ ghost use Rattle.std.specs.Str.{bytes_eq};
 use lines_of::line_at;
 use session::Session;
 use std::io::{BufWriter, Read, Write};
+use std::process::ExitCode;
 use std::{env, fs, io};
 use tokens::same;
 
@@ -59,8 +60,8 @@ fn is_read(word: &str) -> bool
     same(word.as_bytes(), b"read")
 }
 
-/// Runs the command that the arguments ask for.
-fn run(rt: &HostRuntime) -> anyhow::Result<()> {
+/// Runs the command that the arguments ask for; another is a failure, with the usage on standard error.
+fn run(rt: &HostRuntime) -> anyhow::Result<ExitCode> {
     let mut args = env::args(rt)?;
     let _program = args.next();
     let asked = match args.next() {
@@ -69,12 +70,13 @@ fn run(rt: &HostRuntime) -> anyhow::Result<()> {
     };
     let file = args.next();
     if asked && args.next().is_none() {
-        return read_book(rt, file);
+        read_book(rt, file)?;
+        return Ok(ExitCode::SUCCESS);
     }
     eprintln!(rt; "{USAGE}")?;
-    Err(USAGE.into())
+    Ok(ExitCode::FAILURE)
 }
 
-fn main(rt: HostRuntime) -> anyhow::Result<()> {
+fn main(rt: HostRuntime) -> anyhow::Result<ExitCode> {
     run(&rt)
 }

@@ -2,7 +2,7 @@
 mod calls;
 
 ghost use Rattle.std.specs.Prelude.{◌≤◌, vec_len};
-ghost use Rattle.logic.specs.Limits.{symbols as symbol-room};
+ghost use Rattle.logic.specs.Limits.{symbols as symbol_room};
 ghost use Rattle.reading.specs.Fixed.{Fixed};
 
 use logic::SymbolRow;
@@ -14,6 +14,6 @@ pub struct Session {
     symbols: usize,
     words: Vec<u32>,
     ghost within: { symbols ≤ vec_len rows },
-    ghost few: { symbols ≤ symbol-room },
+    ghost few: { symbols ≤ symbol_room },
     ghost fixed: { Fixed symbols rows.items },
 }

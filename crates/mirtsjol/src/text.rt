@@ -43,6 +43,9 @@ pub fn add_answer(text: &mut String, answer: Answer, store: &[u32]) -> fmt::Resu
 {
     match answer {
         Answer::Words(count) => add_words(text, first(store, count)),
-        Answer::Refused(number, place) => writeln!(text, "refused {number} {place}"),
+        Answer::Refused(number, place) => {
+            writeln!(text, "refused {number} {place}")?;
+            Ok(())
+        }
     }
 }

@@ -1,8 +1,8 @@
 //! Bindings.
 ghost use Rattle.std.specs.Prelude.{◌≡◌, ◌+◌, ◌-◌, ◌<◌, ◌≤◌, length, take, IfOk, OnOk, ◌==◌};
-ghost use Rattle.logic.specs.Limits.{symbols as most-symbols};
+ghost use Rattle.logic.specs.Limits.{symbols as most_symbols};
 ghost use Rattle.reading.specs.declared.cursor.Purpose.TheVariants.{Binding};
-ghost use Rattle.reading.specs.Limits.{bindings as most-bindings, binding_words};
+ghost use Rattle.reading.specs.Limits.{bindings as most_bindings, binding_words};
 ghost use Rattle.reading.specs.States.{state};
 ghost use Rattle.reading.specs.Clauses.{MarkOn, IsClosed};
 ghost use Rattle.reading.specs.Bindings.{variable_at, binding_mark, after_binding, binding as bindingOf, InOrder, Filled, held, pushed, after_bindings, binding_list, bindings_at};
@@ -63,8 +63,8 @@ fn read_variable(line: &[u8], from: usize) -> Result<Found, Fault>
 
 /// Where one more binding or the closing bracket is due; `given` bindings are read already.
 fn read_mark(line: &[u8], from: usize, given: usize) -> Result<Mark, Fault>
-    ensures is { result ≡ binding_mark line.now (given == most-bindings) from }
-    ensures on { IfOk result (λ m. MarkOn (length line.now) from m × (given ≡ most-bindings → IsClosed m)) }
+    ensures is { result ≡ binding_mark line.now (given == most_bindings) from }
+    ensures on { IfOk result (λ m. MarkOn (length line.now) from m × (given ≡ most_bindings → IsClosed m)) }
 {
     let t = next(line, from)?;
     match t.token {
@@ -89,10 +89,10 @@ fn binding(
 ) -> Result<Pair, Fault>
     requires purpose { from.purpose ≡ Binding }
     requires few { from.count ≤ binding_words }
-    requires within { (from.count ≤ from.pos) × (symbols.old ≤ length rows.old) × (symbols.old ≤ most-symbols) }
+    requires within { (from.count ≤ from.pos) × (symbols.old ≤ length rows.old) × (symbols.old ≤ most_symbols) }
     ensures is { after_binding result from.count terms.new symbols.new rows.new ≡ bindingOf line.now (state from terms.old symbols.old rows.old) }
     ensures on { IfOk result (λ p. (p.at.count ≤ p.at.pos) × (p.at.purpose ≡ Binding) × (from.count ≤ p.at.count) × (p.at.count ≤ binding_words) × (take from.count terms.new ≡ take from.count terms.old)) }
-    ensures counted { (symbols.new ≤ length rows.old) × (symbols.new ≤ most-symbols) × (symbols.old ≤ symbols.new) }
+    ensures counted { (symbols.new ≤ length rows.old) × (symbols.new ≤ most_symbols) × (symbols.old ≤ symbols.new) }
 {
     let found = read_variable(line, from.pos)?;
     let inner = Cursor {
@@ -109,7 +109,7 @@ fn binding(
 
 /// One binding more, whose term ends at `end`.
 fn push(bindings: &mut Bindings, variable: u32, end: usize)
-    requires { (bindings.old.count < most-bindings) × (end ≤ binding_words) }
+    requires { (bindings.old.count < most_bindings) × (end ≤ binding_words) }
     ensures { bindings.new ≡ pushed bindings.old variable end }
 {
     let n = bindings.count;
@@ -128,8 +128,8 @@ fn binding_list(
 ) -> Result<usize, Fault>
     requires purpose { from.purpose ≡ Binding }
     requires filled { Filled bindings.old from.count }
-    requires within { (from.count ≤ from.pos) × (symbols.old ≤ length rows.old) × (symbols.old ≤ most-symbols) }
-    ensures is { after_bindings result bindings.new symbols.new rows.new ≡ binding_list line.now (most-bindings + 1 - bindings.old.count) (held bindings.old) (state from bindings.old.terms symbols.old rows.old) }
+    requires within { (from.count ≤ from.pos) × (symbols.old ≤ length rows.old) × (symbols.old ≤ most_symbols) }
+    ensures is { after_bindings result bindings.new symbols.new rows.new ≡ binding_list line.now (most_bindings + 1 - bindings.old.count) (held bindings.old) (state from bindings.old.terms symbols.old rows.old) }
     ensures ordered { OnOk result (InOrder bindings.new) }
 {
     match read_mark(line, from.pos, bindings.count)? {

@@ -1,6 +1,6 @@
 //! Clauses.
 ghost use Rattle.std.specs.Prelude.{◌≡◌, ◌+◌, ◌-◌, ◌≤◌, length, IfOk, OnOk};
-ghost use Rattle.logic.specs.Limits.{literals as most-literals, symbols as most-symbols};
+ghost use Rattle.logic.specs.Limits.{literals as most_literals, symbols as most_symbols};
 ghost use Rattle.logic.specs.Words.{negation};
 ghost use Rattle.reading.specs.States.{state, after};
 ghost use Rattle.reading.specs.Clauses.{sides as sidesOf, atom as atomOf, negated as negatedOf, literal as literalOf, literal_list, clause_from};
@@ -22,10 +22,10 @@ fn sides(
     out: &mut [u32],
     from: Cursor,
 ) -> Result<Cursor, Fault>
-    requires within { (from.count ≤ from.pos) × (symbols.old ≤ length rows.old) × (symbols.old ≤ most-symbols) }
+    requires within { (from.count ≤ from.pos) × (symbols.old ≤ length rows.old) × (symbols.old ≤ most_symbols) }
     ensures is { after result out.new symbols.new rows.new ≡ sidesOf line.now (state from out.old symbols.old rows.old) }
     ensures on { IfOk result (λ a. a.count ≤ a.pos) }
-    ensures counted { (symbols.new ≤ length rows.old) × (symbols.new ≤ most-symbols) × (symbols.old ≤ symbols.new) }
+    ensures counted { (symbols.new ≤ length rows.old) × (symbols.new ≤ most_symbols) × (symbols.old ≤ symbols.new) }
 {
     let left = term(line, rows, symbols, out, from, ROOM)?;
     let right = term(line, rows, symbols, out, left, ROOM)?;
@@ -43,10 +43,10 @@ fn atom(
     sign: u32,
 ) -> Result<Cursor, Fault>
     requires sign { sign ≤ negation }
-    requires within { (from.count ≤ from.pos) × (symbols.old ≤ length rows.old) × (symbols.old ≤ most-symbols) }
+    requires within { (from.count ≤ from.pos) × (symbols.old ≤ length rows.old) × (symbols.old ≤ most_symbols) }
     ensures is { after result out.new symbols.new rows.new ≡ atomOf line.now sign (state from out.old symbols.old rows.old) }
     ensures on { IfOk result (λ a. a.count ≤ a.pos) }
-    ensures counted { (symbols.new ≤ length rows.old) × (symbols.new ≤ most-symbols) × (symbols.old ≤ symbols.new) }
+    ensures counted { (symbols.new ≤ length rows.old) × (symbols.new ≤ most_symbols) × (symbols.old ≤ symbols.new) }
 {
     let t = next(line, from.pos)?;
     match t.token {
@@ -78,10 +78,10 @@ fn negated(
     out: &mut [u32],
     from: Cursor,
 ) -> Result<Cursor, Fault>
-    requires within { (from.count ≤ from.pos) × (symbols.old ≤ length rows.old) × (symbols.old ≤ most-symbols) }
+    requires within { (from.count ≤ from.pos) × (symbols.old ≤ length rows.old) × (symbols.old ≤ most_symbols) }
     ensures is { after result out.new symbols.new rows.new ≡ negatedOf line.now (state from out.old symbols.old rows.old) }
     ensures on { IfOk result (λ a. a.count ≤ a.pos) }
-    ensures counted { (symbols.new ≤ length rows.old) × (symbols.new ≤ most-symbols) × (symbols.old ≤ symbols.new) }
+    ensures counted { (symbols.new ≤ length rows.old) × (symbols.new ≤ most_symbols) × (symbols.old ≤ symbols.new) }
 {
     let end = open(line, from.pos)?;
     let inner = Cursor { pos: end, ..from };
@@ -101,10 +101,10 @@ fn literal(
     out: &mut [u32],
     from: Cursor,
 ) -> Result<Cursor, Fault>
-    requires within { (from.count ≤ from.pos) × (symbols.old ≤ length rows.old) × (symbols.old ≤ most-symbols) }
+    requires within { (from.count ≤ from.pos) × (symbols.old ≤ length rows.old) × (symbols.old ≤ most_symbols) }
     ensures is { after result out.new symbols.new rows.new ≡ literalOf line.now (state from out.old symbols.old rows.old) }
     ensures on { IfOk result (λ a. a.count ≤ a.pos) }
-    ensures counted { (symbols.new ≤ length rows.old) × (symbols.new ≤ most-symbols) × (symbols.old ≤ symbols.new) }
+    ensures counted { (symbols.new ≤ length rows.old) × (symbols.new ≤ most_symbols) × (symbols.old ≤ symbols.new) }
 {
     let t = next(line, from.pos)?;
     match t.token {
@@ -125,11 +125,11 @@ fn literals(
     from: Cursor,
     given: u32,
 ) -> Result<Cursor, Fault>
-    requires given { given ≤ most-literals }
-    requires within { (from.count ≤ from.pos) × (symbols.old ≤ length rows.old) × (symbols.old ≤ most-symbols) }
-    ensures is { after result out.new symbols.new rows.new ≡ literal_list line.now (most-literals + 1 - given) (state from out.old symbols.old rows.old) }
+    requires given { given ≤ most_literals }
+    requires within { (from.count ≤ from.pos) × (symbols.old ≤ length rows.old) × (symbols.old ≤ most_symbols) }
+    ensures is { after result out.new symbols.new rows.new ≡ literal_list line.now (most_literals + 1 - given) (state from out.old symbols.old rows.old) }
     ensures on { IfOk result (λ a. a.count ≤ a.pos) }
-    ensures counted { (symbols.new ≤ length rows.old) × (symbols.new ≤ most-symbols) × (symbols.old ≤ symbols.new) }
+    ensures counted { (symbols.new ≤ length rows.old) × (symbols.new ≤ most_symbols) × (symbols.old ≤ symbols.new) }
 {
     match literal_mark(line, from.pos, given)? {
         Mark::Closed(end) => Ok(Cursor { pos: end, ..from }),
@@ -152,7 +152,7 @@ pub fn read_clause(
 ) -> Result<Cursor, Fault>
     ensures is { after result out.new symbols.new rows.new ≡ clause_from line.now purpose from out.old symbols.old rows.old }
     ensures on { IfOk result (λ a. a.count ≤ a.pos) }
-    ensures counted { OnOk result ((symbols.new ≤ length rows.old) × (symbols.new ≤ most-symbols)) }
+    ensures counted { OnOk result ((symbols.new ≤ length rows.old) × (symbols.new ≤ most_symbols)) }
 {
     check_count(rows, *symbols)?;
     let inner = open(line, from)?;

@@ -1,6 +1,6 @@
 //! Brackets and fixed words.
 ghost use Rattle.std.specs.Prelude.{◌≡◌, ◌<◌, ◌≤◌, length, IfOk, ◌==◌};
-ghost use Rattle.logic.specs.Limits.{literals as most-literals};
+ghost use Rattle.logic.specs.Limits.{literals as most_literals};
 ghost use Rattle.reading.specs.Clauses.{opening, closing, wording, MarkOn, IsClosed, literal_mark};
 
 use logic::LITERALS;
@@ -51,8 +51,8 @@ pub fn word(line: &[u8], from: usize, due: &[u8]) -> Result<usize, Fault>
 
 /// Where one more literal or the closing bracket is due; `given` literals are read already.
 pub fn literal_mark(line: &[u8], from: usize, given: u32) -> Result<Mark, Fault>
-    ensures is { result ≡ literal_mark line.now (given == most-literals) from }
-    ensures on { IfOk result (λ m. MarkOn (length line.now) from m × (given ≡ most-literals → IsClosed m)) }
+    ensures is { result ≡ literal_mark line.now (given == most_literals) from }
+    ensures on { IfOk result (λ m. MarkOn (length line.now) from m × (given ≡ most_literals → IsClosed m)) }
 {
     let t = next(line, from)?;
     match t.token {

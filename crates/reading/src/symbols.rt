@@ -1,6 +1,6 @@
 //! Symbols as their names are met.
 ghost use Rattle.std.specs.Prelude.{◌≡◌, ◌-◌, ◌<◌, ◌≤◌, ◌++◌, length, replicate, IfOk, Ok, OnErr};
-ghost use Rattle.logic.specs.Limits.{arguments as most-arguments, name_bytes, symbols as most-symbols};
+ghost use Rattle.logic.specs.Limits.{arguments as most_arguments, name_bytes, symbols as most_symbols};
 ghost use Rattle.reading.specs.Entering.{room_for_word, met, enter as enterOf, meet as meet_of, headed, head as head_of, settled, settle as settleOf};
 
 use crate::cursor::{Cursor, Purpose, enters, full};
@@ -49,10 +49,10 @@ fn enter(
     place: usize,
 ) -> Result<usize, Fault>
     requires short { length name.now ≤ name_bytes }
-    requires counted { (symbols.old ≤ length rows.old) × (symbols.old ≤ most-symbols) }
+    requires counted { (symbols.old ≤ length rows.old) × (symbols.old ≤ most_symbols) }
     ensures is { met result symbols.new rows.new ≡ enterOf purpose kind name.now place symbols.old rows.old }
     ensures on { IfOk result (λ s. s < symbols.new) }
-    ensures counted { (symbols.new ≤ length rows.old) × (symbols.new ≤ most-symbols) × (symbols.old ≤ symbols.new) }
+    ensures counted { (symbols.new ≤ length rows.old) × (symbols.new ≤ most_symbols) × (symbols.old ≤ symbols.new) }
 {
     let s = *symbols;
     if !enters(purpose) {
@@ -81,10 +81,10 @@ fn meet(
     place: usize,
 ) -> Result<usize, Fault>
     requires short { length name.now ≤ name_bytes }
-    requires counted { (symbols.old ≤ length rows.old) × (symbols.old ≤ most-symbols) }
+    requires counted { (symbols.old ≤ length rows.old) × (symbols.old ≤ most_symbols) }
     ensures is { met result symbols.new rows.new ≡ meet_of purpose kind name.now place symbols.old rows.old }
     ensures on { IfOk result (λ s. s < symbols.new) }
-    ensures counted { (symbols.new ≤ length rows.old) × (symbols.new ≤ most-symbols) × (symbols.old ≤ symbols.new) }
+    ensures counted { (symbols.new ≤ length rows.old) × (symbols.new ≤ most_symbols) × (symbols.old ≤ symbols.new) }
 {
     match symbol_named(&rows[0..*symbols], name) {
         Some(s) => {
@@ -106,10 +106,10 @@ pub fn read_head(
     from: Cursor,
     kind: Kind,
 ) -> Result<Head, Fault>
-    requires { (symbols.old ≤ length rows.old) × (symbols.old ≤ most-symbols) }
+    requires { (symbols.old ≤ length rows.old) × (symbols.old ≤ most_symbols) }
     ensures is { headed result symbols.new rows.new ≡ head_of line.now kind from.purpose from.pos from.count symbols.old rows.old }
     ensures on { IfOk result (λ h. (h.symbol < symbols.new) × (from.pos < h.end) × (h.end ≤ length line.now)) }
-    ensures counted { (symbols.new ≤ length rows.old) × (symbols.new ≤ most-symbols) × (symbols.old ≤ symbols.new) }
+    ensures counted { (symbols.new ≤ length rows.old) × (symbols.new ≤ most_symbols) × (symbols.old ≤ symbols.new) }
 {
     let t = next(line, from.pos)?;
     let name = symbol_name(t.token, t.place)?;
@@ -124,7 +124,7 @@ pub fn read_head(
 
 /// The closing bracket fixes an open arity, or holds the symbol to its own.
 pub fn settle(rows: &mut [SymbolRow], s: usize, given: u32, place: usize) -> Result<(), Fault>
-    requires { (s < length rows.old) × (given ≤ most-arguments) }
+    requires { (s < length rows.old) × (given ≤ most_arguments) }
     ensures is { settled result rows.new ≡ settleOf rows.old s given place }
     ensures kept { OnErr result (rows.new ≡ rows.old) }
 {

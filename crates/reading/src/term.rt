@@ -1,6 +1,6 @@
 //! Terms.
 ghost use Rattle.std.specs.Prelude.{◌≡◌, ◌+◌, ◌-◌, ◌<◌, ◌≤◌, false, length, IfOk, Ok, ◌==◌};
-ghost use Rattle.logic.specs.Limits.{arguments as most-arguments, symbols as most-symbols};
+ghost use Rattle.logic.specs.Limits.{arguments as most_arguments, symbols as most_symbols};
 ghost use Rattle.logic.specs.Words.{symbol_word, negation};
 ghost use Rattle.reading.specs.States.{state, after, full as full_of};
 ghost use Rattle.reading.specs.Terms.{fitting as fittingOf, SlotOn, slot as slot_of, after_group, args, nest, application as applicationOf, term as termOf};
@@ -38,7 +38,7 @@ pub struct Role {
 
 /// Depth, words and number of an argument, in this order.
 fn fitting(room: u32, words: bool, given: u32, place: usize) -> Result<(), Fault>
-    ensures { result ≡ fittingOf (room == 0) words (given == most-arguments) place (Ok tt) }
+    ensures { result ≡ fittingOf (room == 0) words (given == most_arguments) place (Ok tt) }
 {
     if room == 0 {
         return Err(Fault::Deep(place));
@@ -54,7 +54,7 @@ fn fitting(room: u32, words: bool, given: u32, place: usize) -> Result<(), Fault
 
 /// The slot that is due.
 fn read_slot(line: &[u8], from: Cursor, room: u32, given: u32) -> Result<Slot, Fault>
-    ensures is { result ≡ slot_of line.now (room == 0) (full_of from.purpose from.count) (given == most-arguments) from.pos }
+    ensures is { result ≡ slot_of line.now (room == 0) (full_of from.purpose from.count) (given == most_arguments) from.pos }
     ensures on { IfOk result (λ s. SlotOn (length line.now) from.pos room given s) }
 {
     let t = next(line, from.pos)?;
@@ -84,10 +84,10 @@ pub fn application(
     role: Role,
 ) -> Result<Cursor, Fault>
     requires base { role.base ≤ negation + symbol_word 0 }
-    requires within { (from.count ≤ from.pos) × (symbols.old ≤ length rows.old) × (symbols.old ≤ most-symbols) }
+    requires within { (from.count ≤ from.pos) × (symbols.old ≤ length rows.old) × (symbols.old ≤ most_symbols) }
     ensures is { after result out.new symbols.new rows.new ≡ applicationOf line.now role.room role.base role.kind (state from out.old symbols.old rows.old) }
     ensures on { IfOk result (λ a. a.count ≤ a.pos) }
-    ensures counted { (symbols.new ≤ length rows.old) × (symbols.new ≤ most-symbols) × (symbols.old ≤ symbols.new) }
+    ensures counted { (symbols.new ≤ length rows.old) × (symbols.new ≤ most_symbols) × (symbols.old ≤ symbols.new) }
 {
     let head = read_head(line, rows, symbols, from, role.kind)?;
     put(out, from.count, role.base + head.symbol as u32);
@@ -112,11 +112,11 @@ fn arguments(
     room: u32,
     given: u32,
 ) -> Result<Group, Fault>
-    requires given { given ≤ most-arguments }
-    requires within { (from.count ≤ from.pos) × (symbols.old ≤ length rows.old) × (symbols.old ≤ most-symbols) }
-    ensures is { after_group result out.new symbols.new rows.new ≡ args line.now (nest line.now room) (room == 0) (most-arguments + 1 - given) given (state from out.old symbols.old rows.old) }
-    ensures on { IfOk result (λ g. (g.at.count ≤ g.at.pos) × (g.given ≤ most-arguments)) }
-    ensures counted { (symbols.new ≤ length rows.old) × (symbols.new ≤ most-symbols) × (symbols.old ≤ symbols.new) }
+    requires given { given ≤ most_arguments }
+    requires within { (from.count ≤ from.pos) × (symbols.old ≤ length rows.old) × (symbols.old ≤ most_symbols) }
+    ensures is { after_group result out.new symbols.new rows.new ≡ args line.now (nest line.now room) (room == 0) (most_arguments + 1 - given) given (state from out.old symbols.old rows.old) }
+    ensures on { IfOk result (λ g. (g.at.count ≤ g.at.pos) × (g.given ≤ most_arguments)) }
+    ensures counted { (symbols.new ≤ length rows.old) × (symbols.new ≤ most_symbols) × (symbols.old ≤ symbols.new) }
 {
     match read_slot(line, from, room, given)? {
         Slot::Closed(end) => Ok(Group {
@@ -154,10 +154,10 @@ pub fn term(
     from: Cursor,
     room: u32,
 ) -> Result<Cursor, Fault>
-    requires within { (from.count ≤ from.pos) × (symbols.old ≤ length rows.old) × (symbols.old ≤ most-symbols) }
+    requires within { (from.count ≤ from.pos) × (symbols.old ≤ length rows.old) × (symbols.old ≤ most_symbols) }
     ensures is { after result out.new symbols.new rows.new ≡ termOf line.now room (state from out.old symbols.old rows.old) }
     ensures on { IfOk result (λ a. a.count ≤ a.pos) }
-    ensures counted { (symbols.new ≤ length rows.old) × (symbols.new ≤ most-symbols) × (symbols.old ≤ symbols.new) }
+    ensures counted { (symbols.new ≤ length rows.old) × (symbols.new ≤ most_symbols) × (symbols.old ≤ symbols.new) }
 {
     match read_slot(line, from, room, 0)? {
         Slot::Closed(end) => Err(Fault::Due(end - 1)),

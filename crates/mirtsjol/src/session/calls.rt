@@ -1,6 +1,6 @@
 //! What a session does: lines are read one after another against the symbols of those that read.
 ghost use Rattle.std.specs.Prelude.{◌≡◌, ◌++◌, take, IfOk, vec_len, string_bytes, OnOk};
-ghost use Rattle.logic.specs.Limits.{symbols as symbol-room};
+ghost use Rattle.logic.specs.Limits.{symbols as symbol_room};
 ghost use Rattle.mirtsjol.specs.Verdicts.{after_answer};
 ghost use Rattle.mirtsjol.specs.Sessions.{word_room, judged_in};
 ghost use Rattle.mirtsjol.specs.Texts.{told};
@@ -27,7 +27,7 @@ const BLANK: SymbolRow = SymbolRow {
 impl Session {
     /// A session that has met no symbol.
     pub fn new(heap: Global) -> Result<Session, AllocError>
-        ensures { IfOk result (λ s. (s.symbols ≡ 0) × (vec_len s.rows ≡ symbol-room) × (vec_len s.words ≡ word_room)) }
+        ensures { IfOk result (λ s. (s.symbols ≡ 0) × (vec_len s.rows ≡ symbol_room) × (vec_len s.words ≡ word_room)) }
     {
         let rows = vec![in heap; BLANK; SYMBOLS]?;
         let words = vec![in heap; 0; WORDS]?;

@@ -14,9 +14,9 @@ invariant_of-self c =
     (with_items_is s.words c.judge.new.words (omega arith))
     (with_items_is s.rows c.judge.new.rows (omega arith))
     c.judge.ensures
-    c.deref-mut-2.ensures.value
-    c.deref-mut.ensures.value) in
-    (omega (arith, k.within), (k.few, (k.fixed, tt)))
+    c.deref_mut-2.ensures.value
+    c.deref_mut.ensures.value) in
+    record { within = omega (arith, k.within); few = k.few; fixed = k.fixed }
 
 pub returns : goal.returns
 returns c =
@@ -27,8 +27,8 @@ returns c =
     (with_items_is s.words c.judge.new.words (omega arith))
     (with_items_is s.rows c.judge.new.rows (omega arith))
     c.judge.ensures
-    c.deref-mut-2.ensures.value
-    c.deref-mut.ensures.value in
+    c.deref_mut-2.ensures.value
+    c.deref_mut.ensures.value in
     record {
       is = is;
       room = search rules;
