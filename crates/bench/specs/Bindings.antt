@@ -1,5 +1,5 @@
 -- Bindings as they are kept, and lawful ones.
-use Rattle.std.specs.Prelude.{ℕ, ◌<◌, List}
+use Rattle.std.specs.Prelude.{◌<◌, List}
 use Rattle.logic.specs.Limits as limits
 use Rattle.logic.specs.Words.{term_words}
 use Rattle.logic.specs.Lawful.{LawfulTerm}

@@ -3,11 +3,11 @@ use Rattle.std.proofs.Common.{◌≡◌, ℕ, ◌<◌, List, [], Ok, Err, codes,
 use Rattle.logic.specs.declared.row.SymbolRow.{SymbolRow}
 use Rattle.tokens.specs.declared.fault.Fault.{Fault}
 use Rattle.reading.specs.declared.cursor.Purpose.TheVariants.{Step}
-use Rattle.reading.specs.States.{State, Halt, halt, ◌>>=◌, lift, from}
+use Rattle.reading.specs.States.{lift, from}
 use Rattle.reading.specs.Entering.{settle}
 use Rattle.reading.specs.Clauses.{opening, closing, wording, clause_from}
 use Rattle.reading.specs.Fixed.{Fixed}
-use Rattle.reading.specs.Bindings.{Bounds, bindings_at}
+use Rattle.reading.specs.Bindings.{bindings_at}
 use Rattle.reading.proofs.Keeping.{Safe, bind_safe, Any, Holds}
 use Rattle.reading.proofs.Whole.{cond_safe}
 use Rattle.reading.proofs.Sealed.{Halted, lift_sealed, Sealed, clause_sealed, BoundSealed, bindings_sealed, settle_any, settle_same}

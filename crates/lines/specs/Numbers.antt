@@ -1,5 +1,5 @@
 -- Numbers of a line, and its end.
-use Rattle.std.specs.Prelude.{ℕ, Bool, cond, List, Ok, Err, Result, ◌==◌}
+use Rattle.std.specs.Prelude.{ℕ, cond, List, Ok, Err, Result, ◌==◌}
 use Rattle.tokens.specs.declared.fault.Fault.{Fault}
 use Rattle.tokens.specs.declared.fault.Fault.TheVariants.{NoToken, Early, Due, Long, Form, Deep, ManyLiterals, ManyNumbers, ManyBindings, ManyWords, OtherKind, OtherArity, Unknown, ManyArguments, ManySymbols, NoRule, Count}
 use Rattle.tokens.specs.Tokens.{Lexed, lex}

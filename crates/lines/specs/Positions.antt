@@ -1,7 +1,7 @@
 -- Positions: lists of argument numbers.
 use Rattle.std.specs.Prelude.{ℕ, zero, suc, ◌+◌, Bool, cond, List, [], ◌∷◌, ◌++◌, take, Ok, Err, Result, ◌==◌}
 use Rattle.tokens.specs.declared.fault.Fault.{Fault}
-use Rattle.tokens.specs.declared.fault.Fault.TheVariants.{Due, ManyNumbers}
+use Rattle.tokens.specs.declared.fault.Fault.TheVariants.{ManyNumbers}
 use Rattle.tokens.specs.Tokens.{Tok, opens, closes, equals, number, variable, word, lex}
 use Rattle.tokens.specs.Forms.{number_form}
 use Rattle.reading.specs.States.{◌then◌}

@@ -6,7 +6,7 @@ use Rattle.logic.specs.declared.row.Kind.TheVariants.{Predicate}
 use Rattle.logic.specs.Symbols.{Symbol}
 use Rattle.logic.specs.Syntax.{Terms, Atom, Clause, []ₜ, ◌∷ₜ◌, predicate, equal}
 use Rattle.logic.specs.Words.{term_words, terms_words, literal_words, clause_words}
-use Rattle.logic.specs.Lawful.{count, deeps, LawfulTerm, LawfulTerms, LawfulAtom}
+use Rattle.logic.specs.Lawful.{count, deeps, LawfulTerms, LawfulAtom}
 use Rattle.logic.specs.Walks.{bare}
 use Rattle.logic.specs.Reads.{Arity, Reads, Takes, Taken, Spells}
 use Rattle.logic.proofs.Spelt.{AllLawful}

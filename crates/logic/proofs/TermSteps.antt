@@ -6,7 +6,7 @@ use Rattle.logic.specs.declared.row.Kind.TheVariants.{Function}
 use Rattle.logic.specs.Symbols.{Symbol}
 use Rattle.logic.specs.Syntax.{Term, Terms, var, app, []ₜ, ◌∷ₜ◌}
 use Rattle.logic.specs.Words.{term_words, terms_words}
-use Rattle.logic.specs.Lawful.{count, deep, deeps, LawfulTerm, LawfulTerms}
+use Rattle.logic.specs.Lawful.{count, deep, deeps, LawfulTerms}
 use Rattle.logic.specs.Reads.{Reads, Ends}
 use Rattle.logic.proofs.Spelt.{terms_prefix_unique}
 

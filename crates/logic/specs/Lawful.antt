@@ -6,7 +6,7 @@ use Rattle.logic.specs.declared.row.SymbolRow.{SymbolRow}
 use Rattle.logic.specs.declared.row.Kind.TheVariants.{Function, Predicate}
 use Rattle.logic.specs.Limits as limits
 use Rattle.logic.specs.Symbols.{Symbol}
-use Rattle.logic.specs.Syntax.{Term, Terms, Atom, Literal, Clause, var, app, []ₜ, ◌∷ₜ◌, predicate, equal}
+use Rattle.logic.specs.Syntax.{Term, Terms, Atom, Clause, var, app, []ₜ, ◌∷ₜ◌, predicate, equal}
 
 abbrev pub count : Terms → ℕ
 count []ₜ = 0

@@ -1,5 +1,5 @@
 -- Structures, finite or countable, and what is true in one.
-use Rattle.std.specs.Prelude.{ℕ, ◌<◌, Bool, true, false, cond, not, ◌||◌, T, List, [], ◌∷◌, ◌==◌}
+use Rattle.std.specs.Prelude.{ℕ, ◌<◌, Bool, false, cond, not, ◌||◌, T, List, [], ◌∷◌, ◌==◌}
 use Rattle.std.specs.List.{AllByRecursion as All}
 use Rattle.logic.specs.Syntax.{Term, Terms, Atom, Literal, Clause, var, app, []ₜ, ◌∷ₜ◌, predicate, equal}
 

@@ -2,7 +2,6 @@
 use Rattle.std.proofs.Common.{◌≡◌, ℕ, ◌≤◌, Bool, true, false, cond, ltb, List, ◌++◌, length, take, drop, Ok, Err, Result, sym, refl, ap, ◌∙◌, subst, arith}
 use Rattle.std.proofs.lemmas.List.{take_at, take_all}
 use Rattle.std.proofs.lemmas.Bool.{ltb-false, le-ltb}
-use Rattle.logic.specs.Syntax.{Clause}
 use Rattle.logic.specs.Words.{clause_words}
 use Rattle.logic.specs.declared.row.SymbolRow.{SymbolRow}
 use Rattle.reading.specs.States.{Halt}

@@ -2,7 +2,7 @@
 use Rattle.std.proofs.Common.{◌≡◌, ℕ, List, ◌++◌, IfOk, Ok, Err, Result, ap, ◌∙◌}
 use Rattle.logic.specs.declared.row.SymbolRow.{SymbolRow}
 use Rattle.mirtsjol.specs.declared.judge.Answer.{Answer}
-use Rattle.mirtsjol.specs.Verdicts.{Verdict, verdict, Judged, after_answer, line_judged}
+use Rattle.mirtsjol.specs.Verdicts.{verdict, Judged, after_answer, line_judged}
 use Rattle.mirtsjol.specs.Texts.{told}
 
 pub stored :

@@ -9,8 +9,8 @@ use Rattle.tokens.specs.Tokens.{Tok, Lexed, opens, closes, equals, number, varia
 use Rattle.tokens.specs.Forms.{variable_form}
 use Rattle.reading.specs.declared.term.Slot.{Slot}
 use Rattle.reading.specs.declared.term.Slot.TheVariants.{Closed, Variable, Opened}
-use Rattle.reading.specs.States.{State, Halt, halt, ◌>>=◌, ◌then◌, lift, from, moved, written, full}
-use Rattle.reading.specs.Entering.{Headed, head, settle}
+use Rattle.reading.specs.States.{State, Halt, halt, ◌>>=◌, ◌then◌, from, moved, written, full}
+use Rattle.reading.specs.Entering.{head, settle}
 use Rattle.reading.specs.Terms.{fitting, slot, slot_at, turn, headed_state, with_rows, args, body, nest, application, term_turn, term}
 
 -- what holds of an answer, and of a refusal

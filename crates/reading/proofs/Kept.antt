@@ -1,5 +1,5 @@
 -- A binding's term leaves the words before it as they were, and there are never more than the limit.
-use Rattle.std.proofs.Common.{◌≡◌, ℕ, ◌+◌, ◌<◌, ◌≤◌, Bool, true, false, cond, List, length, take, set, Ok, Err, Result, sym, refl, ◌∙◌, subst, arith}
+use Rattle.std.proofs.Common.{◌≡◌, ℕ, ◌+◌, ◌<◌, ◌≤◌, Bool, true, false, cond, List, take, set, Ok, Err, Result, sym, refl, ◌∙◌, subst, arith}
 use Rattle.std.proofs.lemmas.List.{take-set-le}
 use Rattle.std.proofs.lemmas.Bool.{leb-false}
 use Rattle.logic.specs.declared.row.Kind.{Kind}
@@ -12,7 +12,7 @@ use Rattle.reading.specs.declared.cursor.Cursor.{Cursor}
 use Rattle.reading.specs.declared.cursor.Purpose.{Purpose}
 use Rattle.reading.specs.declared.cursor.Purpose.TheVariants.{Rule, Step, Binding}
 use Rattle.reading.specs.Limits as limits
-use Rattle.reading.specs.States.{State, Halt, halt, state, after, ◌>>=◌, lift, from, moved, written, full}
+use Rattle.reading.specs.States.{State, Halt, halt, state, after, lift, from, full}
 use Rattle.reading.specs.Entering.{Headed, head, settle, meet, room_for_word}
 use Rattle.reading.specs.Terms.{headed_state, with_rows, term}
 use Rattle.reading.proofs.Keeping.{Safe, bind_safe, Any, term_safe}

@@ -1,5 +1,5 @@
 -- Zeros behind a name.
-use Rattle.std.proofs.Common.{◌≡◌, ℕ, zero, suc, ◌-◌, ◌≤◌, List, [], ◌∷◌, drop, replicate, sym, refl, ap, ◌∙◌, le_of_suc-le-suc, arith}
+use Rattle.std.proofs.Common.{◌≡◌, ℕ, zero, suc, ◌-◌, ◌≤◌, drop, replicate, ap, ◌∙◌, le_of_suc-le-suc, arith}
 
 pub drop-replicate : {A : Type 0} (x : A) (n m : ℕ) → n ≤ m → drop n (replicate m x) ≡ replicate (m - n) x
 drop-replicate x zero m h = let e : m ≡ m - 0 = omega arith in ap (λ k. replicate k x) e

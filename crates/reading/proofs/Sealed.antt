@@ -1,11 +1,11 @@
 -- Where names are not entered, the count of symbols stays as it was; so do their rows, if each counted row has an arity of at most four.
-use Rattle.std.proofs.Common.{◌≡◌, ℕ, ◌+◌, ◌<◌, ◌≤◌, Bool, true, false, cond, ◌&&◌, eqb, ltb, List, [], length, take, set, Some, None, Ok, Err, Option, Result, sym, refl, ◌∙◌, subst, arith, length-take}
+use Rattle.std.proofs.Common.{◌≡◌, ℕ, ◌+◌, ◌<◌, ◌≤◌, Bool, true, false, cond, ◌&&◌, eqb, ltb, List, [], length, take, set, Some, None, Ok, Err, Option, Result, sym, refl, subst, arith, length-take}
 use Rattle.std.proofs.lemmas.Bool.{ltb-true}
 use Rattle.logic.specs.declared.row.Kind.{Kind}
 use Rattle.logic.specs.declared.row.SymbolRow.{SymbolRow}
 use Rattle.logic.specs.Limits as language
 use Rattle.logic.specs.Symbols.{row_at, same_kind}
-use Rattle.logic.specs.Directory.{FirstPlace, first_that, has_name, place_of_name}
+use Rattle.logic.specs.Directory.{FirstPlace, has_name, place_of_name}
 use Rattle.logic.proofs.Firsts.{first_place}
 use Rattle.tokens.specs.declared.fault.Fault.{Fault}
 use Rattle.tokens.specs.declared.fault.Fault.TheVariants.{Unknown, OtherKind, OtherArity, ManySymbols, Count}
@@ -15,7 +15,7 @@ use Rattle.reading.specs.declared.cursor.Purpose.{Purpose}
 use Rattle.reading.specs.declared.cursor.Purpose.TheVariants.{Binding}
 use Rattle.reading.specs.Limits as limits
 use Rattle.reading.specs.States.{State, Halt, halt, ◌>>=◌, lift, from, enters, exceeds}
-use Rattle.reading.specs.Entering.{Met, Headed, head, known, meet, enter, new_row, settle, with_arity, room_for_word}
+use Rattle.reading.specs.Entering.{Met, Headed, head, known, meet, new_row, settle, with_arity, room_for_word}
 use Rattle.reading.specs.Terms.{headed_state, with_rows, term}
 use Rattle.reading.specs.Clauses.{opening, clause, clause_from}
 use Rattle.reading.specs.Fixed.{Fixed}

@@ -1,5 +1,5 @@
 -- What each step of the reading of a clause keeps, the whole reading keeps.
-use Rattle.std.proofs.Common.{◌≡◌, ℕ, zero, suc, ◌+◌, Bool, true, false, cond, eqb, List, Ok, Err, codes, Result}
+use Rattle.std.proofs.Common.{ℕ, zero, suc, ◌+◌, Bool, true, false, cond, eqb, List, Ok, Err, codes, Result}
 use Rattle.logic.specs.Limits as limits
 use Rattle.logic.specs.Words.{symbol_word, equality_word, negation}
 use Rattle.logic.specs.declared.row.Kind.{Kind}
@@ -8,7 +8,7 @@ use Rattle.tokens.specs.declared.fault.Fault.{Fault}
 use Rattle.tokens.specs.Tokens.{lex}
 use Rattle.reading.specs.declared.mark.Mark.{Mark}
 use Rattle.reading.specs.declared.mark.Mark.TheVariants.{Closed, Opened}
-use Rattle.reading.specs.States.{State, Halt, halt, ◌>>=◌, from, moved, written}
+use Rattle.reading.specs.States.{State, Halt, halt, from, moved, written}
 use Rattle.reading.specs.Entering.{head, settle}
 use Rattle.reading.specs.Terms.{headed_state, with_rows, application, term}
 use Rattle.reading.specs.Clauses.{opening, closing, wording, literal_mark, is_equals, is_not, mark_turn, sides, atom, negated, literal, literal_list, clause}

@@ -1,5 +1,5 @@
 -- The words of a clause.
-use Rattle.std.specs.Prelude.{◌≡◌, ℕ, zero, suc, ◌+◌, ◌<◌, ◌≤◌, Bool, true, false, cond, List, Ok, Err, codes, Result, ◌==◌}
+use Rattle.std.specs.Prelude.{ℕ, zero, suc, ◌+◌, ◌<◌, ◌≤◌, Bool, true, false, cond, List, Ok, Err, codes, Result, ◌==◌}
 use Rattle.std.specs.Str.{bytes_eq}
 use Rattle.logic.specs.Limits as limits
 use Rattle.logic.specs.Words.{symbol_word, equality_word, negation}

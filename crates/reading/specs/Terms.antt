@@ -1,5 +1,5 @@
 -- The words of a term.
-use Rattle.std.specs.Prelude.{◌≡◌, ℕ, zero, suc, ◌+◌, ◌-◌, ◌<◌, ◌≤◌, Bool, true, false, cond, List, Ok, Err, Result, ◌==◌, ◌≢◌, slice_set}
+use Rattle.std.specs.Prelude.{ℕ, zero, suc, ◌+◌, ◌-◌, ◌<◌, ◌≤◌, Bool, false, cond, List, Ok, Err, Result, ◌==◌, ◌≢◌, slice_set}
 use Rattle.logic.specs.Limits as limits
 use Rattle.logic.specs.Words.{symbol_word}
 use Rattle.logic.specs.declared.row.SymbolRow.{SymbolRow}

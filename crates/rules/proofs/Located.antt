@@ -1,6 +1,6 @@
 -- The words before, of and behind a literal of a clause; and conclusions compared by their words.
-use Rattle.std.proofs.Common.{◌≡◌, ℕ, ◌+◌, ◌-◌, ◌<◌, ◌≤◌, Bool, ◌⊎◌, List, [], ◌∷◌, ◌++◌, length, take, drop, Decides, sym, refl, ap, ◌∙◌, ap₂, inl, inr, ⊎_elim, append_assoc, arith, length-append}
-use Rattle.std.specs.List.{between, AllByRecursion as All}
+use Rattle.std.proofs.Common.{◌≡◌, ℕ, ◌+◌, ◌-◌, ◌<◌, Bool, ◌⊎◌, List, ◌++◌, length, take, drop, Decides, sym, ap, ◌∙◌, ap₂, ⊎_elim, append_assoc, arith, length-append}
+use Rattle.std.specs.List.{between}
 use Rattle.std.proofs.lemmas.List.{take_at, drop_at}
 use Rattle.std.proofs.ByRecursion.{All-append, All-take, All-drop, All-get_or}
 use Rattle.logic.specs.declared.row.SymbolRow.{SymbolRow}

@@ -1,8 +1,8 @@
 -- Each of the six inference rules keeps the law of the bench.
-use Rattle.std.specs.Prelude.{◌≡◌, ℕ, suc, ◌≤◌, true, false, List, [], ◌∷◌, length, slice_index_or, refl}
+use Rattle.std.specs.Prelude.{◌≡◌, ℕ, true, false, List, [], ◌∷◌, length, slice_index_or}
 use Rattle.std.proofs.Common.{subst, inl, arith}
 use Rattle.logic.specs.Syntax.{Clause}
-use Rattle.inference.specs.Answers.{allowed, fault, Demand, ◌otherwise◌, answer}
+use Rattle.inference.specs.Answers.{fault, Demand, ◌otherwise◌, answer}
 use Rattle.inference.specs.Law.{Follows}
 use Rattle.bench.specs.Faults.{RuleNumber}
 use Rattle.bench.specs.Meanings.{premise, literal_number, Sound}

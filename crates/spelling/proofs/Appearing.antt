@@ -1,5 +1,5 @@
 -- Symbols that appear one after another.
-use Rattle.std.proofs.Common.{◌≡◌, ℕ, ◌+◌, ◌<◌, ◌≤◌, Bool, List, [], ◌∷◌, ◌++◌, arith}
+use Rattle.std.proofs.Common.{ℕ, ◌+◌, ◌≤◌, Bool, List, [], ◌∷◌, ◌++◌, arith}
 use Rattle.spelling.specs.Appearance.{Appear, none_more, known, next}
 
 pub appear_join : (may : Bool) (n : ℕ) (ss : List ℕ) (m : ℕ) (ts : List ℕ) (l : ℕ) → Appear may n ss m → Appear may m ts l → Appear may n (ss ++ ts) l

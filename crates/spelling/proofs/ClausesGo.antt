@@ -1,18 +1,17 @@
 -- A clause of the grammar is read.
-use Rattle.std.proofs.Common.{◌≡◌, ℕ, zero, suc, ◌+◌, ◌-◌, ◌<◌, ◌≤◌, Bool, true, false, cond, ◌||◌, eqb, List, [], ◌∷◌, ◌++◌, length, Ok, Err, codes, Result, sym, refl, ap, ◌∙◌, subst, arith, length-append}
+use Rattle.std.proofs.Common.{◌≡◌, ℕ, zero, suc, ◌+◌, ◌≤◌, Bool, true, false, cond, ◌||◌, eqb, List, [], ◌∷◌, ◌++◌, length, Ok, Err, codes, Result, sym, refl, ap, ◌∙◌, subst, arith}
 use Rattle.std.proofs.lemmas.Bool.Decides.{nat_tests}
-use Rattle.std.proofs.lemmas.Bool.{cond-true, cond-false}
+use Rattle.std.proofs.lemmas.Bool.{cond-false}
 use Rattle.std.proofs.lemmas.Slice.Eq.{bytes_eq-Decides}
 use Rattle.std.specs.Str.{bytes_eq}
 use Rattle.logic.specs.Syntax.{Term, Terms, Atom, Literal, Clause, predicate, equal}
 use Rattle.logic.specs.Words.{term_words, terms_words, atom_words, literal_words, clause_words}
 use Rattle.logic.specs.Lawful.{count}
 use Rattle.logic.specs.declared.row.SymbolRow.{SymbolRow}
-use Rattle.logic.specs.declared.row.Kind.TheVariants.{Predicate, Function}
-use Rattle.tokens.specs.declared.fault.Fault.{Fault}
+use Rattle.logic.specs.declared.row.Kind.TheVariants.{Predicate}
 use Rattle.tokens.specs.declared.fault.Fault.TheVariants.{Due, ManyLiterals}
 use Rattle.tokens.specs.Forms.{reserved}
-use Rattle.tokens.specs.Tokens.{Tok, opens, closes, equals, number, variable, word, Lexed, lex}
+use Rattle.tokens.specs.Tokens.{Tok, opens, closes, equals, word, Lexed, lex}
 use Rattle.reading.specs.declared.cursor.Purpose.{Purpose}
 use Rattle.reading.specs.declared.term.Slot.{Slot}
 use Rattle.reading.specs.declared.term.Slot.TheVariants.{Closed, Variable, Opened}
@@ -23,15 +22,15 @@ use Rattle.reading.specs.Terms.{slot, turn, nest, application, term_turn, term, 
 use Rattle.reading.specs.Clauses.{opened, opening, closed, closing, worded, wording, marked, literal_mark, is_equals, is_not, mark_turn, sides, atom, negated, literal, literal_list, clause}
 use Rattle.reading.proofs.Turns.{nest_application}
 use Rattle.reading.proofs.Lists.{literals_suc}
-use Rattle.spelling.specs.Appearance.{term_symbols, terms_symbols, atom_symbols, clause_symbols, Appear, none_more}
-use Rattle.spelling.specs.Grammar.{Names, SpellsTerm, SpellsTerms, SpellsAtom, SpellsLiteral, SpellsLiterals, SpellsClause, an_atom, an_equation, positive, negative, no_literals, more_literals, a_clause}
-use Rattle.spelling.proofs.Answers.{no_ok, ok_same, bind_ok}
+use Rattle.spelling.specs.Appearance.{term_symbols, atom_symbols, clause_symbols, Appear, none_more}
+use Rattle.spelling.specs.Grammar.{SpellsAtom, SpellsLiteral, SpellsLiterals, SpellsClause, an_atom, an_equation, positive, negative, no_literals, more_literals, a_clause}
+use Rattle.spelling.proofs.Answers.{ok_same, bind_ok}
 use Rattle.spelling.proofs.Tables.{within_table}
-use Rattle.spelling.proofs.Streams.{Tokens, Wrote, wrote_join, wrote_none, wrote_one}
+use Rattle.spelling.proofs.Streams.{Tokens, wrote_join, wrote_none, wrote_one}
 use Rattle.spelling.proofs.Appearing.{appear_split, appear_more}
 use Rattle.spelling.proofs.TermsGrow.{SlotRead, slot_read, some}
 use Rattle.spelling.proofs.HeadsGo.{Final}
-use Rattle.spelling.proofs.TermsGo.{First, first_token, Roomy, roomy_left, roomy_right, Toward, Went, TermDone, ArgsDone, BodyDone, ArgsGo, body_read, toward_moved, term_goes, terms_go}
+use Rattle.spelling.proofs.TermsGo.{First, first_token, Roomy, roomy_left, roomy_right, Toward, Went, TermDone, BodyDone, ArgsGo, body_read, toward_moved, term_goes, terms_go}
 
 -- ── Brackets and words ──
 

@@ -1,21 +1,21 @@
 -- What is read as a clause is one of the grammar, and its words are written.
-use Rattle.std.proofs.Common.{◌≡◌, ℕ, zero, suc, ◌+◌, ◌-◌, ◌<◌, ◌≤◌, Bool, true, false, cond, eqb, List, [], ◌∷◌, ◌++◌, length, set, Ok, Err, codes, Result, sym, refl, ap, ◌∙◌, subst, arith}
+use Rattle.std.proofs.Common.{◌≡◌, ℕ, zero, suc, ◌+◌, ◌-◌, ◌≤◌, Bool, true, false, cond, eqb, List, [], ◌∷◌, ◌++◌, length, Ok, codes, sym, refl, ◌∙◌, subst, arith}
 use Rattle.std.proofs.lemmas.Bool.{true≢false}
-use Rattle.logic.specs.Syntax.{Term, Atom, Literal, Clause, predicate, equal}
+use Rattle.logic.specs.Syntax.{Atom, Literal, Clause, predicate, equal}
 use Rattle.logic.specs.Words.{term_words, terms_words, atom_words, literal_words, clause_words}
 use Rattle.logic.specs.declared.row.SymbolRow.{SymbolRow}
 use Rattle.logic.specs.declared.row.Kind.TheVariants.{Predicate}
 use Rattle.tokens.specs.Tokens.{Tok, opens, closes, equals, word, Lexed, lex}
 use Rattle.reading.specs.declared.mark.Mark.{Mark}
 use Rattle.reading.specs.declared.mark.Mark.TheVariants.{Closed, Opened}
-use Rattle.reading.specs.States.{State, Halt, ◌>>=◌, from, moved, written, enters}
+use Rattle.reading.specs.States.{State, from, moved, written, enters}
 use Rattle.reading.specs.Terms.{application, term}
 use Rattle.reading.specs.Clauses.{opening, closing, wording, literal_mark, is_equals, is_not, mark_turn, sides, atom, negated, literal, literal_list, clause}
 use Rattle.reading.proofs.Lists.{literals_suc}
-use Rattle.spelling.specs.Appearance.{term_symbols, atom_symbols, clause_symbols, Appear, none_more}
-use Rattle.spelling.specs.Grammar.{SpellsTerm, SpellsAtom, SpellsLiteral, SpellsLiterals, SpellsClause, an_atom, an_equation, positive, negative, no_literals, more_literals, a_clause}
-use Rattle.spelling.proofs.Answers.{no_ok, ok_same, bind_ok, lift_ok}
-use Rattle.spelling.proofs.Tables.{Grows, stays, grows_then, fits_before}
+use Rattle.spelling.specs.Appearance.{term_symbols, atom_symbols, clause_symbols, none_more}
+use Rattle.spelling.specs.Grammar.{SpellsAtom, SpellsLiteral, SpellsLiterals, SpellsClause, an_atom, an_equation, positive, negative, no_literals, more_literals, a_clause}
+use Rattle.spelling.proofs.Answers.{ok_same, bind_ok, lift_ok}
+use Rattle.spelling.proofs.Tables.{stays, grows_then, fits_before}
 use Rattle.spelling.proofs.Streams.{Tokens, behind, Wrote, wrote_join, wrote_none, wrote_one}
 use Rattle.spelling.proofs.Appearing.{appear_join}
 use Rattle.spelling.proofs.Marks.{TokenRead, token_there, opening_read, closing_read, wording_read, MarkRead, literal_mark_read, equals_is, not_is}

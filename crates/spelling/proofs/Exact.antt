@@ -1,5 +1,5 @@
 -- Rule lines are read exactly as they are spelled.
-use Rattle.std.proofs.Common.{◌≡◌, ℕ, zero, suc, ◌+◌, ◌-◌, ◌<◌, ◌≤◌, Bool, true, false, cond, eqb, leb, List, [], ◌∷◌, ◌++◌, length, get_or, take, drop, replicate, Ok, Err, Result, sym, refl, ap, ◌∙◌, subst, arith}
+use Rattle.std.proofs.Common.{◌≡◌, ℕ, ◌+◌, ◌-◌, ◌<◌, ◌≤◌, Bool, true, false, cond, eqb, leb, List, [], ◌∷◌, ◌++◌, length, get_or, take, drop, replicate, Ok, Result, sym, refl, ap, ◌∙◌, subst, arith}
 use lib.ListN.{length-replicate}
 use Rattle.std.proofs.lemmas.List.{get_or-take, length-take-le, ext_get_or, take_all}
 use lib.Seq.{take-append_seam}
@@ -13,18 +13,16 @@ use Rattle.logic.specs.declared.row.SymbolRow.{SymbolRow}
 use Rattle.logic.proofs.Spelt.{words_injective}
 use Rattle.tokens.specs.declared.byte.Class.TheVariants.{Space, Run}
 use Rattle.tokens.specs.declared.fault.Fault.{Fault}
-use Rattle.tokens.specs.declared.fault.Fault.TheVariants.{NoToken, Early}
 use Rattle.tokens.specs.Bytes.{within, past}
-use Rattle.tokens.specs.Tokens.{Tok, opens, closes, equals, number, variable, word, Lexed, variable_run, class, one_byte, token_at, lex}
+use Rattle.tokens.specs.Tokens.{Tok, opens, closes, equals, number, variable, word, Lexed, variable_run, class, token_at, lex}
 use Rattle.lines.specs.Rules.{Ruled, rule_line}
 use Rattle.spelling.specs.Appearance.{clause_symbols, Appear, PlainRow}
 use Rattle.spelling.specs.Grammar.{SpellsRule, SpellsClause, a_rule}
 use Rattle.spelling.specs.Spelling.{Counted, Extends, SpellsRuleLine, stored, rule_read, RulesAreReadAsSpelled, RulesAreSpelledOneWay, SpelledRulesAreLawful}
 use Rattle.spelling.proofs.Answers.{no_ok, ok_same}
-use Rattle.spelling.proofs.Tables.{Grows}
 use Rattle.spelling.proofs.Spacing.{tokens_spaced, spaced_tokens, by_run, by_equals, by_close, by_open, by_end}
 use Rattle.spelling.proofs.LawfulSpelled.{lawful_clause}
-use Rattle.spelling.proofs.RulesRead.{RuleRead, rule_read as read-rule, settled_after}
+use Rattle.spelling.proofs.RulesRead.{RuleRead, rule_read as read-rule}
 use Rattle.spelling.proofs.RulesGo.{pour_stored, rows_are, table_settled, RuleDone, rule_done}
 
 -- ── The place of the line's bracket ──

@@ -1,21 +1,19 @@
 -- What the reading of a symbol says of its token, and the forms of runs.
-use Rattle.std.proofs.Common.{◌≡◌, ℕ, ◌+◌, ◌-◌, ◌<◌, ◌≤◌, Bool, true, false, cond, ◌&&◌, eqb, ltb, leb, ◌≢◌, List, [], ◌∷◌, ◌++◌, length, get_or, take, drop, set, replicate, Some, None, Ok, Err, Option, Result, sym, refl, ap, ◌∙◌, subst, arith, length-set}
-use Rattle.std.proofs.lemmas.Bool.Decides.{nat_tests}
+use Rattle.std.proofs.Common.{◌≡◌, ℕ, ◌+◌, ◌<◌, ◌≤◌, Bool, true, false, cond, ◌&&◌, eqb, ltb, leb, List, length, get_or, take, set, Some, None, Ok, Err, Option, sym, refl, ap, subst, arith, length-set}
 use Rattle.std.proofs.lemmas.Bool.{ltb-true, ltb-false, leb-true, eqb-true}
 use Rattle.logic.specs.Limits as limits
 use Rattle.logic.specs.Names.{letter}
 use Rattle.logic.specs.declared.row.SymbolRow.{SymbolRow}
 use Rattle.logic.specs.declared.row.Kind.{Kind}
 use Rattle.logic.specs.declared.row.Kind.TheVariants.{Function, Predicate}
-use Rattle.logic.specs.Symbols.{row_at, name_of, same_kind}
+use Rattle.logic.specs.Symbols.{row_at, same_kind}
 use Rattle.logic.specs.Directory.{place_of_name}
-use Rattle.tokens.specs.declared.fault.Fault.{Fault}
 use Rattle.tokens.specs.declared.fault.Fault.TheVariants.{Due, Long, Form, ManyWords, OtherKind, OtherArity, Unknown, ManySymbols}
 use Rattle.tokens.specs.Tokens.{Tok, opens, closes, equals, number, variable, word, Lexed, lex}
 use Rattle.tokens.specs.Forms.{decimal, value, in_form, reserved, name_in_form, symbol_form}
 use Rattle.reading.specs.declared.cursor.Purpose.{Purpose}
-use Rattle.reading.specs.States.{Halt, halt, ◌>>=◌, lift, enters, full}
-use Rattle.reading.specs.Entering.{new_row, with_arity, Met, enter, known, meet, room_for_word, Headed, head, settle}
+use Rattle.reading.specs.States.{halt, lift, enters, full}
+use Rattle.reading.specs.Entering.{new_row, with_arity, Met, known, meet, room_for_word, Headed, head, settle}
 use Rattle.spelling.specs.Grammar.{Numeral, SymbolName}
 use Rattle.spelling.proofs.Answers.{no_ok, ok_same, bind_ok, lift_ok, cond_ok, pick_ok, both_left, both_right}
 use Rattle.spelling.proofs.Tables.{RowGrows, row_stays, found_below, MetAs, old, new, SettledAs, others_stay, set_here}

@@ -1,6 +1,6 @@
 -- Runs in form are read, a name of the table is met as its symbol, and its arity is settled.
-use Rattle.std.proofs.Common.{◌≡◌, ℕ, ◌+◌, ◌-◌, ◌<◌, ◌≤◌, Bool, true, false, cond, ◌&&◌, eqb, ltb, leb, ◌≢◌, ◌⊎◌, List, [], ◌∷◌, length, get_or, take, set, Some, None, Ok, Err, Option, Result, sym, refl, ap, ◌∙◌, subst, ap₂, inl, inr, arith, length-set}
-use Rattle.std.proofs.lemmas.Bool.{cond-true, cond-false, cases_eq, cases_lt, lt-ltb, le-ltb, le-leb, eq-eqb, ltb-true, ltb-false}
+use Rattle.std.proofs.Common.{◌≡◌, ℕ, ◌+◌, ◌<◌, ◌≤◌, true, cond, ◌&&◌, eqb, ltb, leb, ◌⊎◌, List, ◌∷◌, length, get_or, take, set, Some, None, Ok, Err, sym, refl, ap, ◌∙◌, subst, ap₂, inl, inr, arith, length-set}
+use Rattle.std.proofs.lemmas.Bool.{cond-true, cond-false, cases_eq, cases_lt, lt-ltb, le-ltb, le-leb, eq-eqb}
 use Rattle.logic.specs.Limits as limits
 use Rattle.logic.specs.Names.{letter}
 use Rattle.logic.specs.declared.row.SymbolRow.{SymbolRow}
@@ -8,14 +8,13 @@ use Rattle.logic.specs.declared.row.Kind.{Kind}
 use Rattle.logic.specs.declared.row.Kind.TheVariants.{Function, Predicate}
 use Rattle.logic.specs.Symbols.{row_at, name_of, same_kind}
 use Rattle.logic.specs.Directory.{place_of_name}
-use Rattle.tokens.specs.declared.fault.Fault.{Fault}
-use Rattle.tokens.specs.declared.fault.Fault.TheVariants.{Due, Long, Form, ManyWords, OtherKind, OtherArity, Unknown, ManySymbols}
-use Rattle.tokens.specs.Tokens.{Tok, word, Lexed, lex}
+use Rattle.tokens.specs.declared.fault.Fault.TheVariants.{Due, Long, Form, OtherKind, OtherArity, Unknown, ManySymbols}
+use Rattle.tokens.specs.Tokens.{word}
 use Rattle.tokens.specs.Forms.{decimal, value, in_form, reserved, name_in_form, symbol_form}
 use Rattle.reading.specs.declared.cursor.Purpose.{Purpose}
-use Rattle.reading.specs.States.{Halt, halt, ◌>>=◌, lift, enters, full}
-use Rattle.reading.specs.Entering.{new_row, with_arity, Met, known, meet, room_for_word, Headed, head, settle}
-use Rattle.spelling.specs.Appearance.{PlainRow, Appear, none_more, known as is_Known, next}
+use Rattle.reading.specs.States.{halt, enters}
+use Rattle.reading.specs.Entering.{new_row, with_arity, known, meet, settle}
+use Rattle.spelling.specs.Appearance.{PlainRow, Appear, known as is_Known, next}
 use Rattle.spelling.specs.Grammar.{Numeral, SymbolName, Names}
 use Rattle.spelling.proofs.Answers.{both_true}
 use Rattle.spelling.proofs.Tables.{RowGrows, same_kinded, Fits, among, not_among, within_table, others_stay, set_here}

@@ -1,8 +1,7 @@
 -- What the grammar spells is lawful.
-use Rattle.std.proofs.Common.{◌≡◌, ℕ, suc, ◌-◌, ◌<◌, ◌≤◌, max, List, [], ◌∷◌, length, sym, refl, ap, ◌∙◌, subst, arith}
+use Rattle.std.proofs.Common.{ℕ, ◌<◌, ◌≤◌, List, length, subst, arith}
 use Rattle.std.specs.List.{AllByRecursion as All}
-use Rattle.logic.specs.Limits as limits
-use Rattle.logic.specs.Syntax.{Term, Terms, Atom, Literal, Clause, var, app, []ₜ, ◌∷ₜ◌, predicate, equal}
+use Rattle.logic.specs.Syntax.{Term, Terms, Atom, Literal, Clause}
 use Rattle.logic.specs.Lawful.{count, deep, deeps, LawfulTerm, LawfulTerms, LawfulAtom, Lawful}
 use Rattle.logic.specs.Symbols.{row_at, Symbol}
 use Rattle.logic.specs.declared.row.SymbolRow.{SymbolRow}

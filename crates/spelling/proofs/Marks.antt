@@ -1,5 +1,5 @@
 -- What brackets and fixed words say of their tokens.
-use Rattle.std.proofs.Common.{◌≡◌, ℕ, Bool, true, false, cond, List, ◌∷◌, Ok, Err, codes, Result, sym, refl, ap, ◌∙◌, subst, arith}
+use Rattle.std.proofs.Common.{◌≡◌, ℕ, Bool, true, false, List, ◌∷◌, Ok, codes, sym, refl, ap, subst, arith}
 use Rattle.std.specs.Str.{bytes_eq}
 use Rattle.std.proofs.lemmas.Slice.Eq.{bytes_eq-Decides}
 use Rattle.tokens.specs.declared.fault.Fault.{Fault}
@@ -7,7 +7,7 @@ use Rattle.tokens.specs.declared.fault.Fault.TheVariants.{Due, ManyLiterals}
 use Rattle.tokens.specs.Tokens.{Tok, opens, closes, equals, number, variable, word, Lexed, lex}
 use Rattle.reading.specs.declared.mark.Mark.{Mark}
 use Rattle.reading.specs.declared.mark.Mark.TheVariants.{Closed, Opened}
-use Rattle.reading.specs.States.{State, ◌then◌, from}
+use Rattle.reading.specs.States.{State, from}
 use Rattle.reading.specs.Clauses.{opened, opening, closed, closing, worded, wording, marked, literal_mark, is_equals, is_not}
 use Rattle.spelling.proofs.Answers.{no_ok, ok_same, then_ok, lift_ok, cond_ok, pick_ok}
 use Rattle.spelling.proofs.Streams.{Tokens, behind}

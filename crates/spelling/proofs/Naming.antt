@@ -1,12 +1,12 @@
 -- A name that was met stands for its symbol in each table that the rows may become.
-use Rattle.std.proofs.Common.{◌≡◌, ℕ, ◌+◌, ◌<◌, ◌≤◌, Bool, ◌≢◌, List, ◌∷◌, length, set, Some, sym, refl, ap, ◌∙◌, subst, arith}
+use Rattle.std.proofs.Common.{◌≡◌, ℕ, ◌+◌, ◌<◌, ◌≤◌, Bool, ◌≢◌, List, ◌∷◌, length, set, Some, ap, ◌∙◌, subst, arith}
 use Rattle.logic.specs.Symbols.{row_at, name_of}
 use Rattle.logic.specs.Directory.{place_of_name}
 use Rattle.logic.specs.declared.row.SymbolRow.{SymbolRow}
 use Rattle.logic.specs.declared.row.Kind.{Kind}
 use Rattle.reading.specs.Entering.{new_row}
 use Rattle.spelling.specs.Appearance.{Appear, known, next}
-use Rattle.spelling.proofs.Tables.{RowGrows, same_named, same_kinded, new_name, Grows, Fits, fits_before, fits_settled, known_in, next_in, MetAs, old, new, SettledAs, set_here, others_stay}
+use Rattle.spelling.proofs.Tables.{RowGrows, same_named, same_kinded, new_name, Fits, known_in, next_in, MetAs, old, new, SettledAs, set_here, others_stay}
 
 -- the rows before a symbol was entered fit where those after do
 pub fits_entered : (n : ℕ) (rows table : List SymbolRow) (r : SymbolRow) → Fits (n + 1) (set rows n r) table → Fits n rows table

@@ -1,5 +1,5 @@
 -- Numbers, positions and keywords that are spelled are read.
-use Rattle.std.proofs.Common.{◌≡◌, ℕ, zero, suc, ◌+◌, ◌-◌, ◌<◌, ◌≤◌, Bool, true, false, cond, eqb, ltb, List, [], ◌∷◌, ◌++◌, length, get_or, Some, None, Ok, Err, Option, Result, sym, refl, ap, ◌∙◌, subst, ap₂, append_assoc, append-nil, arith}
+use Rattle.std.proofs.Common.{◌≡◌, ℕ, zero, suc, ◌+◌, ◌≤◌, Bool, true, false, cond, eqb, ltb, List, [], ◌∷◌, ◌++◌, length, get_or, Some, Ok, Err, Result, sym, refl, ap, ◌∙◌, subst, append_assoc, append-nil, arith}
 use Rattle.std.proofs.lemmas.Bool.{cond-true, cond-false, le-ltb}
 use Rattle.logic.specs.Limits as limits
 use Rattle.logic.specs.Names.{letter}
@@ -11,18 +11,17 @@ use Rattle.reading.specs.States.{◌then◌}
 use Rattle.reading.specs.Clauses.{opening, opened}
 use Rattle.lines.specs.declared.position.Turn.{Turn}
 use Rattle.lines.specs.declared.position.Turn.TheVariants.{Closed, Given}
-use Rattle.lines.specs.declared.number.Numbered.{Numbered}
 use Rattle.lines.specs.declared.justification.Few.{Few}
 use Rattle.lines.specs.declared.shape.Shape.{Shape}
 use Rattle.lines.specs.Limits as lines
 use Rattle.lines.specs.Numbers.{number_at}
 use Rattle.lines.specs.Positions.{turned, position_mark, position_turn, position_list, position_part}
-use Rattle.lines.specs.Justifications.{Table, few_at, asked, Named, shaped, keyword_at}
+use Rattle.lines.specs.Justifications.{Table, few_at, asked, shaped, keyword_at}
 use Rattle.spelling.specs.Grammar.{Numeral}
 use Rattle.spelling.specs.StepGrammar.{KeywordName, due, SpellsNumbers, no_numbers, more_numbers, SpellsPosition, no_position, a_position}
 use Rattle.spelling.proofs.Streams.{Tokens}
 use Rattle.spelling.proofs.HeadsGo.{numeral_goes}
-use Rattle.spelling.proofs.TermsGo.{First, first_token, suc_some}
+use Rattle.spelling.proofs.TermsGo.{first_token, suc_some}
 use Rattle.spelling.proofs.ReasonsRead.{list_suc}
 
 module _ (bs : List ℕ) where

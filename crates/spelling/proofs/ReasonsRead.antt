@@ -1,19 +1,13 @@
 -- What is read as numbers, positions, keywords and bindings is spelled.
-use Rattle.std.proofs.Common.{◌≡◌, ℕ, zero, suc, ◌+◌, ◌-◌, ◌<◌, ◌≤◌, Bool, true, false, cond, eqb, ltb, List, [], ◌∷◌, ◌++◌, map, length, get_or, take, drop, Some, None, Ok, Err, Option, Result, sym, refl, ap, ◌∙◌, subst, ap₂, append_assoc, append-nil, arith, length-append}
-use lib.Seq.{take-append_seam, drop-append_seam}
+use Rattle.std.proofs.Common.{◌≡◌, ℕ, zero, suc, ◌-◌, ◌≤◌, Bool, true, false, cond, eqb, ltb, List, [], ◌∷◌, ◌++◌, length, get_or, Some, None, Ok, Err, Option, sym, refl, ap, ◌∙◌, subst, append_assoc, append-nil, arith}
 use Rattle.std.proofs.lemmas.Bool.{true≢false, ltb-false}
-use Rattle.std.specs.List.{between}
 use Rattle.logic.specs.Limits as limits
 use Rattle.logic.specs.Names.{letter}
-use Rattle.logic.specs.Syntax.{Term}
-use Rattle.logic.specs.Words.{term_words}
-use Rattle.logic.specs.declared.row.SymbolRow.{SymbolRow}
-use Rattle.tokens.specs.declared.fault.Fault.{Fault}
-use Rattle.tokens.specs.declared.fault.Fault.TheVariants.{Due, Long, Form, ManyNumbers, ManyBindings, NoRule}
+use Rattle.tokens.specs.declared.fault.Fault.TheVariants.{Long, Form, ManyNumbers}
 use Rattle.tokens.specs.Tokens.{Tok, opens, closes, equals, number, variable, word, Lexed, lex}
-use Rattle.tokens.specs.Forms.{number_form, variable_form, keyword_form, name_in_form, largest_number}
+use Rattle.tokens.specs.Forms.{number_form, keyword_form, largest_number}
 use Rattle.reading.specs.States.{◌then◌}
-use Rattle.reading.specs.Clauses.{opening, opened}
+use Rattle.reading.specs.Clauses.{opening}
 use Rattle.lines.specs.declared.position.Turn.{Turn}
 use Rattle.lines.specs.declared.position.Turn.TheVariants.{Closed, Given}
 use Rattle.lines.specs.declared.number.Numbered.{Numbered}
@@ -21,7 +15,7 @@ use Rattle.lines.specs.declared.justification.Few.{Few}
 use Rattle.lines.specs.declared.shape.Shape.{Shape}
 use Rattle.lines.specs.Limits as lines
 use Rattle.lines.specs.Numbers.{number_at}
-use Rattle.lines.specs.Positions.{given_at, turned, position_mark, position_turn, position_list, position_at, position_part}
+use Rattle.lines.specs.Positions.{given_at, turned, position_mark, position_turn, position_list, position_part}
 use Rattle.lines.specs.Justifications.{Table, few_at, asked, Named, shaped, keyword_at}
 use Rattle.spelling.specs.Grammar.{Numeral}
 use Rattle.spelling.specs.StepGrammar.{KeywordName, due, SpellsNumbers, no_numbers, more_numbers, SpellsPosition, no_position, a_position}

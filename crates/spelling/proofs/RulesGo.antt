@@ -1,19 +1,16 @@
 -- A rule line that is spelled is read.
-use Rattle.std.proofs.Common.{◌≡◌, ℕ, zero, suc, ◌+◌, ◌-◌, ◌<◌, ◌≤◌, Bool, true, false, cond, ◌||◌, eqb, ltb, List, [], ◌∷◌, ◌++◌, length, get_or, take, drop, set, Ok, Err, codes, Result, sym, refl, ap, ◌∙◌, subst, ap₂, inl, inr, arith, length-append, length-drop}
-use Rattle.std.proofs.lemmas.List.{get_or-take, get_or_append_left, get_or-append_right, get_or-drop, length-take-le, ext_get_or}
-use Rattle.std.proofs.lemmas.Bool.{cases_lt, cond-true, cond-false, le-ltb, ne_eqb}
-use Rattle.logic.specs.Limits as limits
+use Rattle.std.proofs.Common.{◌≡◌, ℕ, zero, suc, ◌+◌, ◌-◌, ◌<◌, ◌≤◌, true, false, cond, ◌||◌, eqb, List, [], ◌∷◌, ◌++◌, length, get_or, take, drop, set, Ok, Err, codes, Result, sym, refl, ap, ◌∙◌, subst, ap₂, inl, inr, arith, length-append, length-drop}
+use Rattle.std.proofs.lemmas.List.{get_or-take, get_or_append_left, get_or-append_right, get_or-drop, ext_get_or}
+use Rattle.std.proofs.lemmas.Bool.{cases_lt, cond-false, le-ltb, ne_eqb}
 use Rattle.logic.specs.Syntax.{Clause}
 use Rattle.logic.specs.Words.{clause_words}
 use Rattle.logic.specs.Symbols.{row_at, no_row}
 use Rattle.logic.specs.declared.row.SymbolRow.{SymbolRow}
-use Rattle.tokens.specs.declared.fault.Fault.{Fault}
-use Rattle.tokens.specs.declared.fault.Fault.TheVariants.{Early, Form, Count}
+use Rattle.tokens.specs.declared.fault.Fault.TheVariants.{Form, Count}
 use Rattle.tokens.specs.Tokens.{Tok, opens, closes, number, word, Lexed, lex}
 use Rattle.tokens.specs.Forms.{number_form, largest_number}
-use Rattle.reading.specs.declared.cursor.Purpose.{Purpose}
 use Rattle.reading.specs.declared.cursor.Purpose.TheVariants.{Rule}
-use Rattle.reading.specs.States.{State, Halt, halt, ◌>>=◌, ◌then◌, lift, from, exceeds, count_checked}
+use Rattle.reading.specs.States.{State, Halt, halt, ◌>>=◌, ◌then◌, lift, from, exceeds}
 use Rattle.reading.specs.Clauses.{opening, closing, wording, clause, clause_from}
 use Rattle.lines.specs.declared.number.Numbered.{Numbered}
 use Rattle.lines.specs.Numbers.{number_at, step_number, ended, line_end}
@@ -25,7 +22,7 @@ use Rattle.spelling.proofs.Tables.{RowGrows, row_stays, Grows, Fits}
 use Rattle.spelling.proofs.Streams.{Tokens, stop, pour}
 use Rattle.spelling.proofs.Appearing.{appear_more}
 use Rattle.spelling.proofs.HeadsGo.{Final, numeral_goes}
-use Rattle.spelling.proofs.TermsGo.{First, first_token, Toward, Went}
+use Rattle.spelling.proofs.TermsGo.{first_token, Toward}
 use Rattle.spelling.proofs.ClausesGo.{Done, clause_done, opening_goes, closing_goes, wording_goes}
 use Rattle.spelling.proofs.ClausesRead.{ClauseRead, clause_read}
 use Rattle.spelling.proofs.RulesRead.{start, settled_after}

@@ -1,8 +1,7 @@
 -- What is read as a rule line is one of the grammar.
-use Rattle.std.proofs.Common.{◌≡◌, ℕ, ◌+◌, ◌-◌, ◌<◌, ◌≤◌, Bool, true, false, cond, ◌||◌, eqb, ltb, List, [], ◌∷◌, length, get_or, take, Ok, Err, codes, Result, sym, refl, ap, ◌∙◌, subst, inl, inr, arith}
+use Rattle.std.proofs.Common.{◌≡◌, ℕ, ◌-◌, ◌<◌, ◌≤◌, Bool, true, false, ◌||◌, eqb, ltb, List, [], ◌∷◌, length, take, Ok, Err, codes, Result, sym, refl, ap, subst, inl, inr, arith}
 use Rattle.std.proofs.lemmas.List.{get_or-take, length-take-le}
 use Rattle.std.proofs.lemmas.Bool.{cases_lt, ltb-false, eqb-false}
-use Rattle.logic.specs.Limits as limits
 use Rattle.logic.specs.Syntax.{Clause}
 use Rattle.logic.specs.Words.{clause_words}
 use Rattle.logic.specs.Symbols.{row_at, no_row}
@@ -13,7 +12,7 @@ use Rattle.tokens.specs.Tokens.{Tok, opens, closes, equals, number, variable, wo
 use Rattle.tokens.specs.Forms.{number_form, largest_number}
 use Rattle.reading.specs.declared.cursor.Purpose.{Purpose}
 use Rattle.reading.specs.declared.cursor.Purpose.TheVariants.{Rule}
-use Rattle.reading.specs.States.{State, Halt, halt, ◌>>=◌, ◌then◌, lift, from, exceeds, count_checked}
+use Rattle.reading.specs.States.{State, halt, lift, from, exceeds, count_checked}
 use Rattle.reading.specs.Clauses.{opening, closing, wording, clause, clause_from}
 use Rattle.lines.specs.declared.number.Numbered.{Numbered}
 use Rattle.lines.specs.Numbers.{number_at, step_number, ended, line_end}

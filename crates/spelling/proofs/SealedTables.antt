@@ -1,10 +1,9 @@
 -- Where no name is entered the symbols and their rows stay as they were.
-use Rattle.std.proofs.Common.{◌≡◌, ℕ, ◌+◌, ◌<◌, ◌≤◌, Bool, true, false, List, [], ◌∷◌, ◌++◌, length, take, sym, refl, ap, ◌∙◌, subst, inl, inr, arith}
-use Rattle.std.proofs.lemmas.List.{ext_get_or, length-take-le}
+use Rattle.std.proofs.Common.{◌≡◌, ℕ, Bool, false, List, [], ◌∷◌, ◌++◌, length, refl, inl, inr, arith}
+use Rattle.std.proofs.lemmas.List.{ext_get_or}
 use Rattle.std.proofs.lemmas.Bool.{cases_lt}
-use Rattle.std.specs.List.{AllByRecursion as All}
-use Rattle.logic.specs.Syntax.{Term, Terms, Atom, Literal, Clause, var, app, []ₜ, ◌∷ₜ◌, predicate, equal}
-use Rattle.logic.specs.Symbols.{row_at, no_row}
+use Rattle.logic.specs.Syntax.{Term, Terms, Atom, Literal, Clause}
+use Rattle.logic.specs.Symbols.{no_row}
 use Rattle.logic.specs.declared.row.SymbolRow.{SymbolRow}
 use Rattle.tokens.specs.Tokens.{Tok}
 use Rattle.spelling.specs.Appearance.{term_symbols, terms_symbols, atom_symbols, clause_symbols, Appear, none_more, known, next}

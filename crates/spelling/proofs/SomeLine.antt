@@ -1,12 +1,11 @@
 -- Every lawful clause over symbols that can be spelled is that of some line.
-use Rattle.std.proofs.Common.{◌≡◌, ℕ, zero, suc, ◌+◌, ◌-◌, ◌^◌, ◌<◌, ◌≤◌, max, Bool, true, false, cond, ◌&&◌, eqb, ltb, List, [], ◌∷◌, ◌++◌, length, get_or, take, drop, codes, decimal as numeral, sym, refl, ap, ◌∙◌, subst, arith}
-use Rattle.std.proofs.lemmas.Bool.{cond-true, cond-false, eq-eqb, lt-ltb}
+use Rattle.std.proofs.Common.{◌≡◌, ℕ, zero, suc, ◌+◌, ◌^◌, ◌<◌, ◌≤◌, Bool, true, false, eqb, ltb, List, [], ◌∷◌, ◌++◌, length, get_or, take, codes, decimal as numeral, refl, ap, ◌∙◌, subst, arith}
+use Rattle.std.proofs.lemmas.Bool.{cond-true, eq-eqb, lt-ltb}
 use Rattle.std.proofs.lemmas.List.{length-take-le}
 use Rattle.std.proofs.lemmas.Fmt.{length-decimal-le, decimal_nonempty}
-use Rattle.std.specs.List.{prefix_len, AllByRecursion as All}
-use Rattle.logic.specs.Limits as limits
+use Rattle.std.specs.List.{AllByRecursion as All}
 use Rattle.logic.specs.Names.{letter, digit, name_byte}
-use Rattle.logic.specs.Syntax.{Term, Terms, Atom, Literal, Clause, var, app, []ₜ, ◌∷ₜ◌, predicate, equal}
+use Rattle.logic.specs.Syntax.{Term, Terms, Atom, Clause, var, app, []ₜ, ◌∷ₜ◌, predicate, equal}
 use Rattle.logic.specs.Lawful.{count, deep, deeps, LawfulTerm, LawfulTerms, LawfulAtom, Lawful}
 use Rattle.logic.specs.Symbols.{row_at, name_of, Symbol}
 use Rattle.logic.specs.declared.row.SymbolRow.{SymbolRow}
@@ -16,9 +15,9 @@ use Rattle.tokens.specs.Bytes.{past}
 use Rattle.tokens.specs.Tokens.{Tok, opens, closes, equals, number, variable, word, variable_run, class}
 use Rattle.tokens.specs.Forms.{largest_number}
 use Rattle.spelling.specs.Appearance.{clause_symbols, Appear}
-use Rattle.spelling.specs.Spacing.{RunEnds, Spaced, end, space, opening, closing, equality, run}
-use Rattle.spelling.specs.Grammar.{Names, SpellsTerm, SpellsTerms, SpellsAtom, SpellsLiteral, SpellsLiterals, SpellsClause, SpellsRule, a_variable, an_application, no_terms, more_terms, an_atom, an_equation, positive, negative, no_literals, more_literals, a_clause, a_rule}
-use Rattle.spelling.specs.Spelling.{Counted, Extends, SpellsRuleLine, Nameable, LawfulClausesAreSpelled}
+use Rattle.spelling.specs.Spacing.{Spaced, end, space, opening, closing, equality, run}
+use Rattle.spelling.specs.Grammar.{Names, SpellsTerm, SpellsTerms, SpellsAtom, SpellsLiteral, SpellsLiterals, SpellsRule, a_variable, an_application, no_terms, more_terms, an_atom, an_equation, positive, negative, no_literals, more_literals, a_clause, a_rule}
+use Rattle.spelling.specs.Spelling.{Nameable, LawfulClausesAreSpelled}
 use Rattle.spelling.proofs.Answers.{both_true}
 use Rattle.spelling.proofs.Decimals.{numeral_of, numeral_bytes, numeral_first, numeral_leading}
 use Rattle.spelling.proofs.SealedTables.{clause_stays}

@@ -1,5 +1,5 @@
 -- Step lines are read exactly as they are spelled.
-use Rattle.std.proofs.Common.{◌≡◌, ℕ, ◌+◌, ◌-◌, ◌<◌, ◌≤◌, Bool, true, false, cond, List, [], ◌∷◌, ◌++◌, map, length, take, drop, Ok, Err, codes, Result, sym, refl, ap, ◌∙◌, subst, arith}
+use Rattle.std.proofs.Common.{◌≡◌, ℕ, ◌-◌, false, cond, List, [], ◌∷◌, map, length, take, Ok, Err, codes, Result, sym, refl, ap, ◌∙◌, subst, arith}
 use Rattle.std.proofs.lemmas.Bool.{cond-false}
 use Rattle.std.specs.List.{prefix_len}
 use Rattle.logic.specs.Syntax.{Clause}
@@ -10,7 +10,7 @@ use Rattle.tokens.specs.declared.fault.Fault.TheVariants.{Count}
 use Rattle.tokens.specs.Bytes.{within}
 use Rattle.tokens.specs.Tokens.{Tok, opens, closes, number, word, Lexed, lex}
 use Rattle.reading.specs.declared.cursor.Purpose.TheVariants.{Step}
-use Rattle.reading.specs.States.{State, Halt, halt, ◌>>=◌, ◌then◌, lift, from, exceeds, count_checked}
+use Rattle.reading.specs.States.{State, Halt, halt, ◌>>=◌, ◌then◌, lift, from, exceeds}
 use Rattle.reading.specs.Clauses.{opening, closing, wording, clause, clause_from}
 use Rattle.reading.specs.Bindings.{Bound, Bounds}
 use Rattle.lines.specs.declared.number.Numbered.{Numbered}
@@ -22,23 +22,21 @@ use Rattle.lines.specs.Steps.{Stepped, step_text, step_line}
 use Rattle.spelling.specs.Appearance.{clause_symbols, Appear}
 use Rattle.spelling.specs.Grammar.{SpellsClause}
 use Rattle.spelling.specs.Spelling.{Counted, stored}
-use Rattle.spelling.specs.StepGrammar.{Binding, Reason, SpellsReason, a_reason, SpellsStep, a_step}
+use Rattle.spelling.specs.StepGrammar.{Reason, SpellsReason, a_reason, SpellsStep, a_step}
 use Rattle.spelling.specs.StepSpelling.{SpellsStepLine, kept_binding, step_read, StepsAreReadAsSpelled, SpelledStepsAreLawful}
-use Rattle.spelling.proofs.Answers.{ok_same, bind_ok, lift_ok, cond_ok}
-use Rattle.spelling.proofs.Tables.{Grows}
 use Rattle.spelling.proofs.Streams.{Tokens}
 use Rattle.spelling.proofs.Spacing.{tokens_spaced, spaced_tokens}
 use Rattle.spelling.proofs.Exact.{bracket_place}
 use Rattle.spelling.proofs.LawfulSpelled.{lawful_clause}
-use Rattle.spelling.proofs.RulesRead.{start, within_store}
+use Rattle.spelling.proofs.RulesRead.{start}
 use Rattle.spelling.proofs.RulesGo.{pour_stored, step_goes, end_goes, not_exceeding}
-use Rattle.spelling.proofs.TermsGo.{First, first_token}
+use Rattle.spelling.proofs.TermsGo.{first_token}
 use Rattle.spelling.proofs.ClausesGo.{Done, clause_done, opening_goes, closing_goes, wording_goes}
 use Rattle.spelling.proofs.ClausesRead.{ClauseRead, clause_read}
 use Rattle.spelling.proofs.SealedTables.{clause_stays, rows_sealed}
 use Rattle.spelling.proofs.ReasonsGo.{position_goes, few_goes, keyword_goes}
 use Rattle.spelling.proofs.StepsGo.{table_long, sealed_final, on_start, bounds_go}
-use Rattle.spelling.proofs.StepLinesRead.{bounds_sealed, stepped, stepped_same, justified_same, kept_reason, StepRead, step_read as Read-step}
+use Rattle.spelling.proofs.StepLinesRead.{bounds_sealed, stepped, stepped_same, kept_reason, StepRead, step_read as Read-step}
 
 -- ── A justification ──
 

@@ -1,31 +1,30 @@
 -- What is read as a step line is spelled.
-use Rattle.std.proofs.Common.{◌≡◌, ℕ, ◌+◌, ◌-◌, ◌<◌, ◌≤◌, Bool, true, false, List, [], ◌∷◌, map, length, take, Ok, Err, codes, Result, sym, refl, ap, ◌∙◌, subst, arith}
+use Rattle.std.proofs.Common.{◌≡◌, ℕ, ◌-◌, ◌<◌, ◌≤◌, Bool, true, false, List, [], ◌∷◌, map, length, take, Ok, codes, sym, refl, ap, ◌∙◌, subst, arith}
 use Rattle.logic.specs.Syntax.{Clause}
 use Rattle.logic.specs.Words.{clause_words}
 use Rattle.logic.specs.declared.row.SymbolRow.{SymbolRow}
 use Rattle.tokens.specs.declared.fault.Fault.TheVariants.{Count}
 use Rattle.tokens.specs.Tokens.{Tok, opens, closes, number, word, Lexed, lex}
 use Rattle.reading.specs.declared.cursor.Purpose.TheVariants.{Step}
-use Rattle.reading.specs.States.{State, Halt, halt, ◌>>=◌, ◌then◌, lift, from, enters, exceeds, count_checked}
+use Rattle.reading.specs.States.{State, halt, lift, from, exceeds}
 use Rattle.reading.specs.Clauses.{opening, closing, wording, clause, clause_from}
 use Rattle.reading.specs.Bindings.{Bound, Bounds}
 use Rattle.reading.proofs.Keeping.{Safe}
 use Rattle.reading.proofs.Sealed.{Halted, BoundSealed, bindings_sealed, settle_same}
 use Rattle.lines.specs.declared.number.Numbered.{Numbered}
-use Rattle.lines.specs.declared.justification.Few.{Few}
 use Rattle.lines.specs.Numbers.{step_number, line_end}
 use Rattle.lines.specs.Positions.{position_part}
 use Rattle.lines.specs.Justifications.{Table, few_at, asked, Named, keyword_at, Citation, cited_at, bindings_part, Justified, justification_at}
-use Rattle.lines.specs.Steps.{Stepped, step_text, step_line}
+use Rattle.lines.specs.Steps.{Stepped, step_text}
 use Rattle.spelling.specs.Appearance.{clause_symbols}
-use Rattle.spelling.specs.StepGrammar.{Binding, Reason, SpellsReason, a_reason, SpellsStep, a_step}
+use Rattle.spelling.specs.StepGrammar.{Reason, SpellsReason, a_reason, SpellsStep, a_step}
 use Rattle.spelling.specs.StepSpelling.{kept_binding}
-use Rattle.spelling.proofs.Answers.{no_ok, ok_same, bind_ok, then_ok, lift_ok, cond_ok}
-use Rattle.spelling.proofs.Streams.{Tokens, Wrote, pour}
+use Rattle.spelling.proofs.Answers.{ok_same, bind_ok, then_ok, lift_ok, cond_ok}
+use Rattle.spelling.proofs.Streams.{Tokens, pour}
 use Rattle.spelling.proofs.Marks.{TokenRead, token_there, opening_read, closing_read, wording_read}
 use Rattle.spelling.proofs.ClausesRead.{ClauseRead, clause_read}
-use Rattle.spelling.proofs.RulesRead.{Settled, start, NumberRead, step_number_read, end_read, within_store}
-use Rattle.spelling.proofs.ReasonsRead.{position_read, few_read, KeywordRead, keyword_read}
+use Rattle.spelling.proofs.RulesRead.{Settled, start, NumberRead, step_number_read, end_read}
+use Rattle.spelling.proofs.ReasonsRead.{position_read, few_read, keyword_read}
 use Rattle.spelling.proofs.StepsRead.{At, at_fits, at_short, at_after, BoundsRead, bounds_read}
 
 cited_ok : (bs : List ℕ) (shapes : Table) (p : ℕ) (c : Citation) → cited_at bs shapes p ≡ Ok c

@@ -1,9 +1,9 @@
 -- A line spells one step at most.
-use Rattle.std.proofs.Common.{◌≡◌, ℕ, ◌+◌, ◌<◌, ◌≤◌, Bool, List, [], ◌∷◌, ◌++◌, map, length, take, replicate, sym, refl, ap, ◌∙◌, subst, arith}
+use Rattle.std.proofs.Common.{◌≡◌, ℕ, ◌+◌, ◌<◌, ◌≤◌, Bool, List, [], ◌∷◌, map, length, take, replicate, sym, refl, ap, ◌∙◌, arith}
 use Rattle.std.specs.List.{AllByRecursion as All}
-use Rattle.logic.specs.Syntax.{Term, Clause}
+use Rattle.logic.specs.Syntax.{Clause}
 use Rattle.logic.specs.Words.{term_words, clause_words}
-use Rattle.logic.specs.Lawful.{LawfulTerm, Lawful}
+use Rattle.logic.specs.Lawful.{LawfulTerm}
 use Rattle.logic.specs.Symbols.{row_at}
 use Rattle.logic.specs.declared.row.SymbolRow.{SymbolRow}
 use Rattle.logic.proofs.Spelt.{words_injective, term_words_injective}

@@ -1,36 +1,33 @@
 -- Bindings, justifications and step lines that are spelled are read.
-use Rattle.std.proofs.Common.{◌≡◌, ℕ, zero, suc, ◌+◌, ◌-◌, ◌<◌, ◌≤◌, Bool, true, false, cond, eqb, leb, List, [], ◌∷◌, ◌++◌, map, length, take, Some, Ok, Err, codes, Result, sym, refl, ap, ◌∙◌, subst, ap₂, append_assoc, append-nil, arith, length-append}
+use Rattle.std.proofs.Common.{◌≡◌, ℕ, zero, suc, ◌+◌, ◌<◌, ◌≤◌, Bool, false, eqb, leb, List, [], ◌∷◌, ◌++◌, map, length, take, Ok, Err, Result, sym, refl, ap, ◌∙◌, subst, append_assoc, append-nil, arith, length-append}
 use Rattle.std.proofs.lemmas.Bool.Decides.{nat_tests}
 use Rattle.std.proofs.lemmas.List.{length-take-le}
-use Rattle.std.proofs.lemmas.Bool.{cond-true, cond-false}
+use Rattle.std.proofs.lemmas.Bool.{cond-false}
 use Rattle.std.specs.List.{between}
-use Rattle.logic.specs.Syntax.{Term, Clause}
-use Rattle.logic.specs.Words.{term_words, clause_words}
-use Rattle.logic.specs.Symbols.{row_at}
+use Rattle.logic.specs.Syntax.{Term}
+use Rattle.logic.specs.Words.{term_words}
 use Rattle.logic.specs.declared.row.SymbolRow.{SymbolRow}
-use Rattle.tokens.specs.declared.fault.Fault.{Fault}
 use Rattle.tokens.specs.declared.fault.Fault.TheVariants.{ManyBindings, Count}
-use Rattle.tokens.specs.Tokens.{Tok, opens, closes, number, variable, word, Lexed, lex}
+use Rattle.tokens.specs.Tokens.{Tok, opens, closes, variable, Lexed, lex}
 use Rattle.reading.specs.declared.cursor.Purpose.{Purpose}
-use Rattle.reading.specs.declared.cursor.Purpose.TheVariants.{Binding as for-bindings, Step}
+use Rattle.reading.specs.declared.cursor.Purpose.TheVariants.{Binding as for-bindings}
 use Rattle.reading.specs.declared.mark.Mark.{Mark}
 use Rattle.reading.specs.declared.mark.Mark.TheVariants.{Closed, Opened}
 use Rattle.reading.specs.declared.bindings.Found.{Found}
-use Rattle.reading.specs.States.{State, Halt, halt, ◌>>=◌, ◌then◌, lift, from, moved, enters, full, exceeds, count_checked}
+use Rattle.reading.specs.States.{State, Halt, halt, ◌>>=◌, ◌then◌, lift, from, moved, exceeds}
 use Rattle.reading.specs.Terms.{term}
-use Rattle.reading.specs.Clauses.{opening, closing, wording, clause, clause_from, marked}
+use Rattle.reading.specs.Clauses.{opening, closing, marked}
 use Rattle.reading.proofs.Blind.{length-blank}
-use Rattle.reading.specs.Bindings.{Bound, Bounds, blank, variable_due, variable_at, binding_mark, binding_turn, binding, binding_list, bindings_at}
+use Rattle.reading.specs.Bindings.{Bound, Bounds, blank, variable_due, variable_at, binding_mark, binding_turn, binding, binding_list}
 use Rattle.lines.specs.Justifications.{bindings_part}
 use Rattle.spelling.specs.Appearance.{term_symbols, Appear}
 use Rattle.spelling.specs.Grammar.{VariableRun, SpellsTerm}
 use Rattle.spelling.specs.Spelling.{Counted}
 use Rattle.spelling.specs.StepGrammar.{Binding, bound_words, SpellsBindings, no_bindings, more_bindings, SpellsBindingList, no_list, a_list}
 use Rattle.spelling.specs.StepSpelling.{kept_binding}
-use Rattle.spelling.proofs.Answers.{ok_same}
 use Rattle.spelling.proofs.Streams.{Tokens}
 use Rattle.spelling.proofs.HeadsGo.{Final}
-use Rattle.spelling.proofs.TermsGo.{First, first_token, suc_some, Roomy, Toward, Went, toward_moved, term_goes, variable_goes}
+use Rattle.spelling.proofs.TermsGo.{First, first_token, suc_some, Toward, toward_moved, term_goes, variable_goes}
 use Rattle.spelling.proofs.ClausesGo.{Done, term_done, opening_goes, closing_goes}
 use Rattle.spelling.proofs.RulesRead.{fits_itself, start}
 use Rattle.spelling.proofs.RulesGo.{not_exceeding}

@@ -1,45 +1,39 @@
 -- What is read as a step line is one of the grammar.
-use Rattle.std.proofs.Common.{◌≡◌, ℕ, zero, suc, ◌+◌, ◌-◌, ◌<◌, ◌≤◌, Bool, true, false, cond, eqb, List, [], ◌∷◌, ◌++◌, map, length, get_or, take, drop, set, Ok, Err, codes, Result, sym, refl, ap, ◌∙◌, subst, ap₂, append_assoc, append-nil, arith, length-append, length-set, take-append-drop}
+use Rattle.std.proofs.Common.{◌≡◌, ℕ, zero, suc, ◌+◌, ◌-◌, ◌<◌, ◌≤◌, Bool, true, false, eqb, List, [], ◌∷◌, ◌++◌, map, length, take, drop, set, Ok, Err, Result, sym, refl, ap, ◌∙◌, subst, append_assoc, append-nil, arith, length-append, length-set, take-append-drop}
 use lib.Seq.{take-append_seam, drop-append_seam}
 use Rattle.std.proofs.lemmas.List.{length-take-le, take_more_set, drop-set-lt}
 use Rattle.std.proofs.lemmas.Bool.{true≢false}
 use Rattle.std.specs.List.{between}
-use Rattle.logic.specs.Limits as limits
-use Rattle.logic.specs.Syntax.{Term, Clause}
-use Rattle.logic.specs.Words.{term_words, clause_words}
+use Rattle.logic.specs.Words.{term_words}
 use Rattle.logic.specs.declared.row.SymbolRow.{SymbolRow}
 use Rattle.logic.specs.declared.row.Kind.{Kind}
 use Rattle.tokens.specs.declared.fault.Fault.{Fault}
-use Rattle.tokens.specs.declared.fault.Fault.TheVariants.{Due, ManyBindings, Count}
-use Rattle.tokens.specs.Tokens.{Tok, opens, closes, equals, number, variable, word, Lexed, lex}
-use Rattle.tokens.specs.Forms.{variable_form}
-use Rattle.reading.specs.declared.cursor.Purpose.{Purpose}
-use Rattle.reading.specs.declared.cursor.Purpose.TheVariants.{Binding as for-bindings, Step}
+use Rattle.tokens.specs.declared.fault.Fault.TheVariants.{ManyBindings, Count}
+use Rattle.tokens.specs.Tokens.{Tok, opens, closes, equals, number, variable, word, lex}
+use Rattle.reading.specs.declared.cursor.Purpose.TheVariants.{Binding as for-bindings}
 use Rattle.reading.specs.declared.mark.Mark.{Mark}
 use Rattle.reading.specs.declared.mark.Mark.TheVariants.{Closed, Opened}
 use Rattle.reading.specs.declared.bindings.Found.{Found}
-use Rattle.reading.specs.Limits as reading
-use Rattle.reading.specs.States.{State, Halt, halt, state, ◌>>=◌, ◌then◌, lift, from, moved, enters, full, exceeds}
+use Rattle.reading.specs.States.{State, Halt, halt, ◌>>=◌, lift, from, moved, enters, exceeds}
 use Rattle.reading.specs.Entering.{Headed, head, settle}
 use Rattle.reading.specs.Terms.{headed_state, with_rows, term}
-use Rattle.reading.specs.Clauses.{opening, closing, clause}
+use Rattle.reading.specs.Clauses.{opening, closing}
 use Rattle.lines.specs.Justifications.{bindings_part}
-use Rattle.reading.specs.Bindings.{Bound, Bounds, blank, variable_due, variable_at, binding_mark, binding_turn, binding, binding_list, bindings_at}
+use Rattle.reading.specs.Bindings.{Bound, Bounds, blank, variable_due, variable_at, binding_mark, binding_turn, binding, binding_list}
 use Rattle.reading.proofs.Blind.{length-blank}
-use Rattle.reading.proofs.Kept.{WordsKept, term_kept}
+use Rattle.reading.proofs.Kept.{term_kept}
 use Rattle.reading.proofs.Keeping.{Safe, Any, term_safe}
 use Rattle.reading.proofs.Sealed.{Halted, Sealed, term_sealed, settle_same}
 use Rattle.spelling.specs.Appearance.{Appear}
-use Rattle.spelling.specs.Grammar.{VariableRun, SpellsTerm, SpellsClause}
+use Rattle.spelling.specs.Grammar.{VariableRun, SpellsTerm}
 use Rattle.spelling.specs.StepGrammar.{Binding, bound_words, SpellsBindings, no_bindings, more_bindings, SpellsBindingList, no_list, a_list}
 use Rattle.spelling.specs.StepSpelling.{kept_binding}
 use Rattle.spelling.proofs.Answers.{no_ok, ok_same, bind_ok, then_ok, lift_ok, cond_ok}
 use Rattle.spelling.proofs.Tables.{Grows, Fits}
-use Rattle.spelling.proofs.Streams.{Tokens, behind, Wrote, pour}
-use Rattle.spelling.proofs.Marks.{TokenRead, token_there, opening_read, closing_read, MarkIs, marked_is, MarkRead}
+use Rattle.spelling.proofs.Streams.{Tokens, behind, pour}
+use Rattle.spelling.proofs.Marks.{TokenRead, token_there, opening_read, closing_read, marked_is, MarkRead}
 use Rattle.spelling.proofs.TermsGrow.{some, Short, Fitting, variable_is}
-use Rattle.spelling.proofs.TermsRead.{TermRead, term_read, term_keeps}
-use Rattle.spelling.proofs.ClausesRead.{ClauseRead, clause_read}
+use Rattle.spelling.proofs.TermsRead.{TermRead, term_read}
 use Rattle.spelling.proofs.RulesRead.{Settled, fits_itself, start}
 use Rattle.spelling.proofs.SealedTables.{appear_sealed, rows_sealed}
 

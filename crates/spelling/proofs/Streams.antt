@@ -1,5 +1,5 @@
 -- The tokens of a line from a place on, and the words that are written.
-use Rattle.std.proofs.Common.{◌≡◌, ℕ, ◌+◌, List, [], ◌∷◌, ◌++◌, length, set, Ok, Err, sym, refl, ap, ◌∙◌, subst, arith, length-append}
+use Rattle.std.proofs.Common.{◌≡◌, ℕ, ◌+◌, List, [], ◌∷◌, ◌++◌, length, set, Ok, Err, sym, ap, ◌∙◌, subst, arith, length-append}
 use Rattle.tokens.specs.declared.fault.Fault.TheVariants.{Early}
 use Rattle.tokens.specs.Tokens.{Tok, Lexed, lex}
 use Rattle.logic.specs.declared.row.SymbolRow.{SymbolRow}

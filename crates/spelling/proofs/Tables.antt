@@ -1,14 +1,13 @@
 -- How the symbol table grows while a line is read, and the tables that it may grow into.
-use Rattle.std.proofs.Common.{◌≡◌, ℕ, ◌+◌, ◌-◌, ◌<◌, ◌≤◌, Bool, true, false, cond, ◌≢◌, ◌⊎◌, List, [], ◌∷◌, ◌++◌, length, get_or, take, set, replicate, Some, None, Decides, Option, sym, refl, ap, ◌∙◌, subst, ap₂, inl, inr, ⊎_elim, arith, length-set}
+use Rattle.std.proofs.Common.{◌≡◌, ℕ, ◌+◌, ◌-◌, ◌<◌, ◌≤◌, Bool, true, false, ◌≢◌, List, length, get_or, take, set, replicate, Some, None, Decides, Option, sym, refl, ap, ◌∙◌, subst, ap₂, inl, inr, arith, length-set}
 use lib.Seq.{take-append_seam}
-use Rattle.std.specs.Str.{bytes_eq}
 use Rattle.std.proofs.lemmas.List.{get_or-set_same, get_or-set_other, get_or-take, get_or_default, length-take-le}
 use Rattle.std.proofs.lemmas.Slice.Eq.{bytes_eq-Decides}
 use Rattle.std.proofs.lemmas.Bool.{cases_lt, cases_eq}
 use Rattle.logic.specs.declared.row.SymbolRow.{SymbolRow}
 use Rattle.logic.specs.declared.row.Kind.{Kind}
 use Rattle.logic.specs.Symbols.{row_at, name_of, no_row}
-use Rattle.logic.specs.Directory.{first_that, FirstPlace, has_name, place_of_name}
+use Rattle.logic.specs.Directory.{FirstPlace, has_name, place_of_name}
 use Rattle.logic.proofs.Firsts.{first_none, first_some, first_place}
 use Rattle.reading.specs.Entering.{new_row, with_arity}
 use Rattle.spelling.specs.Appearance.{PlainRow}

@@ -1,15 +1,13 @@
 -- A term of the grammar is read.
-use Rattle.std.proofs.Common.{◌≡◌, ℕ, zero, suc, ◌+◌, ◌-◌, ◌<◌, ◌≤◌, Bool, true, false, cond, eqb, List, [], ◌∷◌, ◌++◌, length, set, Ok, Err, Result, sym, refl, ap, ◌∙◌, subst, add-zero, arith, length-append}
+use Rattle.std.proofs.Common.{◌≡◌, ℕ, zero, suc, ◌+◌, ◌-◌, ◌<◌, ◌≤◌, Bool, false, cond, eqb, List, [], ◌∷◌, ◌++◌, length, Ok, Err, Result, sym, refl, ap, ◌∙◌, subst, add-zero, arith, length-append}
 use Rattle.std.proofs.lemmas.Bool.Decides.{nat_tests}
 use Rattle.logic.specs.Limits as limits
 use Rattle.logic.specs.Syntax.{Term, Terms, var, app, []ₜ, ◌∷ₜ◌}
 use Rattle.logic.specs.Words.{term_words, terms_words}
 use Rattle.logic.specs.Lawful.{count}
-use Rattle.logic.specs.Symbols.{row_at}
 use Rattle.logic.specs.declared.row.SymbolRow.{SymbolRow}
 use Rattle.logic.specs.declared.row.Kind.{Kind}
 use Rattle.logic.specs.declared.row.Kind.TheVariants.{Function}
-use Rattle.tokens.specs.declared.fault.Fault.{Fault}
 use Rattle.tokens.specs.declared.fault.Fault.TheVariants.{ManyWords}
 use Rattle.tokens.specs.Tokens.{Tok, opens, closes, variable, word, Lexed, lex}
 use Rattle.tokens.specs.Forms.{variable_form, symbol_form}
@@ -18,11 +16,11 @@ use Rattle.reading.specs.declared.term.Slot.{Slot}
 use Rattle.reading.specs.declared.term.Slot.TheVariants.{Closed, Variable, Opened}
 use Rattle.reading.specs.States.{State, Halt, ◌>>=◌, ◌then◌, lift, from, moved, written, enters, full}
 use Rattle.reading.specs.Entering.{Met, meet, room_for_word, Headed, head, settle}
-use Rattle.reading.specs.Terms.{fitting, slot_at, slot, turn, args, body, nest, headed_state, with_rows}
+use Rattle.reading.specs.Terms.{slot_at, slot, turn, args, body, nest, headed_state, with_rows}
 use Rattle.reading.proofs.Turns.{args_suc}
 use Rattle.spelling.specs.Appearance.{term_symbols, terms_symbols, Appear, none_more}
 use Rattle.spelling.specs.Grammar.{VariableRun, Names, SpellsTerm, SpellsTerms, a_variable, an_application, no_terms, more_terms}
-use Rattle.spelling.proofs.Tables.{Fits, within_table}
+use Rattle.spelling.proofs.Tables.{within_table}
 use Rattle.spelling.proofs.Streams.{Tokens, stop, token, Wrote, wrote_join, wrote_none, wrote_one, wrote_rows}
 use Rattle.spelling.proofs.Appearing.{appear_split, appear_more}
 use Rattle.spelling.proofs.HeadsGo.{numeral_goes, name_goes, Final, MetToward, meet_goes, SettledToward, settle_goes}

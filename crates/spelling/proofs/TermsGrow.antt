@@ -1,32 +1,25 @@
 -- What is known of a slot, and how the symbol table grows while a term is read.
-use Rattle.std.proofs.Common.{◌≡◌, ℕ, zero, suc, ◌+◌, ◌-◌, ◌<◌, ◌≤◌, Bool, true, false, cond, eqb, List, [], ◌∷◌, ◌++◌, length, set, Ok, Err, Result, sym, refl, ap, ◌∙◌, subst, add-zero, arith, length-set}
+use Rattle.std.proofs.Common.{◌≡◌, ℕ, zero, suc, ◌+◌, ◌-◌, ◌<◌, ◌≤◌, Bool, false, eqb, List, length, Ok, Result, sym, refl, ap, ◌∙◌, subst, arith, length-set}
 use Rattle.std.proofs.lemmas.Bool.Decides.{nat_tests}
 use Rattle.std.proofs.lemmas.Bool.{true≢false}
 use Rattle.logic.specs.Limits as limits
-use Rattle.logic.specs.Syntax.{Term, Terms, var, app, []ₜ, ◌∷ₜ◌}
-use Rattle.logic.specs.Words.{term_words, terms_words}
-use Rattle.logic.specs.Lawful.{count}
-use Rattle.logic.specs.Symbols.{row_at, name_of}
 use Rattle.logic.specs.declared.row.SymbolRow.{SymbolRow}
 use Rattle.logic.specs.declared.row.Kind.{Kind}
 use Rattle.logic.specs.declared.row.Kind.TheVariants.{Function}
-use Rattle.tokens.specs.declared.fault.Fault.{Fault}
 use Rattle.tokens.specs.declared.fault.Fault.TheVariants.{Deep, ManyWords, ManyArguments}
 use Rattle.tokens.specs.Tokens.{Tok, opens, closes, equals, number, variable, word, Lexed, lex}
-use Rattle.tokens.specs.Forms.{variable_form, in_form}
+use Rattle.tokens.specs.Forms.{variable_form}
 use Rattle.reading.specs.declared.term.Slot.{Slot}
 use Rattle.reading.specs.declared.term.Slot.TheVariants.{Closed, Variable, Opened}
-use Rattle.reading.specs.States.{State, Halt, ◌>>=◌, ◌then◌, from, lift, moved, written, enters, full}
+use Rattle.reading.specs.States.{State, Halt, from, moved, written, enters, full}
 use Rattle.reading.specs.Entering.{Headed, head, settle, new_row}
-use Rattle.reading.specs.Terms.{fitting, slot_at, slot, turn, args, body, nest, application, headed_state, with_rows, term_turn, term}
+use Rattle.reading.specs.Terms.{fitting, slot_at, slot, turn, args, body, nest, headed_state, with_rows}
 use Rattle.reading.proofs.Turns.{args_suc}
-use Rattle.spelling.specs.Appearance.{term_symbols, terms_symbols, Appear, none_more, known, next}
-use Rattle.spelling.specs.Grammar.{VariableRun, Names, SpellsTerm, SpellsTerms, a_variable, an_application, no_terms, more_terms}
+use Rattle.spelling.specs.Appearance.{Appear}
+use Rattle.spelling.specs.Grammar.{VariableRun}
 use Rattle.spelling.proofs.Answers.{no_ok, ok_same, bind_ok, then_ok, lift_ok, cond_ok}
-use Rattle.spelling.proofs.Tables.{RowGrows, row_then, Grows, stays, grows_then, Fits, fits_before, fits_settled, settled_grows, known_in, next_in, MetAs, old, new, SettledAs, application_grows, set_here}
-use Rattle.spelling.proofs.Streams.{Tokens, behind, Wrote, wrote_join, wrote_none, wrote_one}
+use Rattle.spelling.proofs.Tables.{Grows, stays, grows_then, Fits, MetAs, old, new, SettledAs, application_grows}
 use Rattle.spelling.proofs.Heads.{numeral_is, HeadIs, head_is, settle_is}
-use Rattle.spelling.proofs.Appearing.{appear_join}
 
 -- ── Slots ──
 

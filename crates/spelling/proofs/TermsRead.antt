@@ -1,29 +1,26 @@
 -- What is read as a term is one of the grammar, and its words are written.
-use Rattle.std.proofs.Common.{◌≡◌, ℕ, zero, suc, ◌+◌, ◌-◌, ◌<◌, ◌≤◌, Bool, true, false, eqb, List, [], ◌∷◌, ◌++◌, length, set, Ok, Err, Result, sym, refl, ap, ◌∙◌, subst, add-zero, arith}
+use Rattle.std.proofs.Common.{◌≡◌, ℕ, zero, suc, ◌+◌, false, eqb, List, [], ◌∷◌, Ok, sym, refl, ap, ◌∙◌, subst, add-zero, arith}
 use Rattle.std.proofs.lemmas.Bool.{true≢false}
 use Rattle.logic.specs.Syntax.{Term, Terms, var, app, []ₜ, ◌∷ₜ◌}
 use Rattle.logic.specs.Words.{term_words, terms_words}
 use Rattle.logic.specs.Lawful.{count}
-use Rattle.logic.specs.Symbols.{row_at, name_of}
 use Rattle.logic.specs.declared.row.SymbolRow.{SymbolRow}
 use Rattle.logic.specs.declared.row.Kind.{Kind}
 use Rattle.logic.specs.declared.row.Kind.TheVariants.{Function}
 use Rattle.tokens.specs.Tokens.{Tok, opens, closes, variable, word}
 use Rattle.reading.specs.declared.term.Slot.{Slot}
 use Rattle.reading.specs.declared.term.Slot.TheVariants.{Closed, Variable, Opened}
-use Rattle.reading.specs.States.{State, Halt, ◌>>=◌, from, moved, written, enters, full}
-use Rattle.reading.specs.Entering.{Headed}
-use Rattle.reading.specs.Terms.{slot, turn, args, body, nest, application, headed_state, with_rows, term_turn, term}
+use Rattle.reading.specs.States.{State, from, moved, written, enters, full}
+use Rattle.reading.specs.Terms.{slot, turn, args, body, nest, application, headed_state, term_turn, term}
 use Rattle.reading.proofs.Turns.{args_suc, nest_application}
-use Rattle.spelling.specs.Appearance.{term_symbols, terms_symbols, Appear, none_more, known, next}
+use Rattle.spelling.specs.Appearance.{term_symbols, terms_symbols, Appear, none_more}
 use Rattle.spelling.specs.Grammar.{Names, SpellsTerm, SpellsTerms, a_variable, an_application, no_terms, more_terms}
 use Rattle.spelling.proofs.Answers.{no_ok, ok_same, bind_ok}
 use Rattle.spelling.proofs.Tables.{stays, Fits, fits_before, fits_settled}
 use Rattle.spelling.proofs.Streams.{Tokens, behind, Wrote, wrote_join, wrote_none, wrote_one, wrote_rows}
-use Rattle.spelling.proofs.Heads.{HeadIs}
 use Rattle.spelling.proofs.Naming.{named_in, arity_in, met_appears}
 use Rattle.spelling.proofs.Appearing.{appear_join}
-use Rattle.spelling.proofs.TermsGrow.{SlotRead, slot_read, some, Short, Grown, Fitting, Appears, appears_on, Keeps, args_grow, BodySteps, body_steps, nest_keeps}
+use Rattle.spelling.proofs.TermsGrow.{SlotRead, slot_read, some, Short, Grown, Fitting, Appears, appears_on, args_grow, BodySteps, body_steps, nest_keeps}
 
 module _ (bs : List ℕ) where
   -- a term that was read between two states

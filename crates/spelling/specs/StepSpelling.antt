@@ -1,5 +1,5 @@
 -- What a step line spells, and that reading finds exactly that.
-use Rattle.std.specs.Prelude.{◌≡◌, ℕ, List, [], ◌∷◌, map, length, take, Ok}
+use Rattle.std.specs.Prelude.{◌≡◌, ℕ, List, map, length, take, Ok}
 use Rattle.std.specs.List.{prefix_len}
 use Rattle.logic.specs.Syntax.{Clause}
 use Rattle.logic.specs.Words.{term_words, clause_words}

@@ -1,5 +1,5 @@
 -- Small clauses as trees, and their words. Symbol 0 is the predicate p, symbol 1 the function a.
-use Rattle.std.specs.Prelude.{◌≡◌, ℕ, true, false, List, [], ◌∷◌}
+use Rattle.std.specs.Prelude.{◌≡◌, true, false, [], ◌∷◌}
 use Rattle.logic.specs.Syntax.{Clause, var, app, []ₜ, ◌∷ₜ◌, predicate}
 use Rattle.logic.specs.Words.{clause_words}
 

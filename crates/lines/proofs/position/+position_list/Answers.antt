@@ -1,4 +1,4 @@
-use Rattle.std.proofs.Common.{◌≡◌, ◌+◌, ◌<◌, length, take, arith, rules}
+use Rattle.std.proofs.Common.{◌<◌, length, take, rules}
 use Rattle.std.proofs.lemmas.List.{take_more_set}
 use Rattle.lines.proofs.Positions.{position_turns}
 use Rattle.lines.proofs.position.+position_list.Goals as goal

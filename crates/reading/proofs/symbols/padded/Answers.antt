@@ -1,4 +1,4 @@
-use Rattle.std.proofs.Common.{◌≡◌, ◌-◌, List, ◌++◌, length, drop, replicate, sym, ap, ◌∙◌, ap₂, arith}
+use Rattle.std.proofs.Common.{◌≡◌, ◌-◌, ◌++◌, length, drop, replicate, ap, ◌∙◌, ap₂, arith}
 use Rattle.reading.proofs.Padding.{drop-replicate}
 use Rattle.reading.proofs.symbols.padded.Goals as goal
 

@@ -1,4 +1,4 @@
-use Rattle.std.proofs.Common.{◌<◌, ◌≤◌, length, sym, subst, arith, rules}
+use Rattle.std.proofs.Common.{◌<◌, ◌≤◌, length, sym, arith, rules}
 use Rattle.tokens.proofs.Pasts.{past_on, past_within, part_some}
 use Rattle.tokens.specs.declared.byte.Class.TheVariants.{Run}
 use Rattle.tokens.specs.Tokens.{lex}

@@ -1,7 +1,7 @@
-use Rattle.std.proofs.Common.{◌≡◌, ◌≤◌, length, arith, rules}
+use Rattle.std.proofs.Common.{◌≤◌, length, arith, rules}
 use Rattle.std.proofs.lemmas.List.{with_items_is}
 use Rattle.mirtsjol.proofs.Stores.{stored}
-use Rattle.mirtsjol.proofs.Kept.{Keeps, answer_keeps}
+use Rattle.mirtsjol.proofs.Kept.{answer_keeps}
 use Rattle.mirtsjol.proofs.session.Session.answer.Goals as goal
 
 pub invariant_of-self : goal.invariant_of-self
