@@ -1,6 +1,10 @@
+use Rattle.std.proofs.Common.{refl}
 use Rattle.std.proofs.lemmas.Result.{err_from_is_err_and}
 use Rattle.mirtsjol.proofs.session.Session.new.Goals as goal
 
 pub returns-in_err-words : goal.returns-in_err-words
 returns-in_err-words c =
     let p = err_from_is_err_and c.from_residual-in_err-words.result c.from_residual-in_err-words.ensures.1 in rw p.1 tt
+
+pub returns : goal.returns
+returns c = (refl, c.in_ok-rows.ensures.len, c.in_ok-words.ensures.len)
