@@ -1,6 +1,6 @@
 -- The premises of what a question shows are lawful, those that are not there too.
 use Rattle.std.proofs.Common.{ℕ, zero, suc, List, [], ◌∷◌, get_or, arith}
-use Rattle.std.specs.List.{AllByRecursion as All}
+use Rattle.std.specs.List.{AllByRecursion}
 use Rattle.logic.specs.declared.row.SymbolRow.{SymbolRow}
 use Rattle.logic.specs.Syntax.{Clause}
 use Rattle.logic.specs.Lawful.{Lawful}
@@ -8,7 +8,7 @@ use Rattle.bench.specs.declared.question.Question.{Question}
 use Rattle.bench.specs.Meanings.{Asked, premise}
 use Rattle.bench.specs.Questions.{Shows}
 
-lawful_at : (rows : List SymbolRow) (cs : List Clause) (k : ℕ) → All (Lawful rows) cs → Lawful rows (get_or cs k [])
+lawful_at : (rows : List SymbolRow) (cs : List Clause) (k : ℕ) → AllByRecursion (Lawful rows) cs → Lawful rows (get_or cs k [])
 lawful_at rows [] k g = (tt, omega arith)
 lawful_at rows (c ∷ cs) zero g = g.0
 lawful_at rows (c ∷ cs) (suc k) g = lawful_at rows cs k g.1

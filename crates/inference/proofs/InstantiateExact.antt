@@ -2,7 +2,7 @@
 use Rattle.std.proofs.Common.{◌≡◌, ℕ, Bool, true, false, cond, not, T, eqb, List, [], ◌∷◌, sym, refl, ap, ◌∙◌, subst, eqb→eq, T_not}
 use mathlib.Core.Path.{fun_ext}
 use lib.Dec.{not_T, eqb_refl}
-use Rattle.std.specs.List.{AllByRecursion as All}
+use Rattle.std.specs.List.{AllByRecursion}
 use Rattle.logic.specs.Syntax.{Term, Clause, var}
 use Rattle.inference.specs.Same.{same_clause}
 use Rattle.inference.specs.Answers.{allowed}
@@ -60,7 +60,7 @@ other_stays (b ∷ bs) i h =
     ∙ other_stays bs i h.1
 
 one_more : (b : Binding) (bs cs : List Binding) → Unbound cs b.variable
-    → All (λ c. substitution bs c.variable ≡ c.term) cs → All (λ c. substitution (b ∷ bs) c.variable ≡ c.term) cs
+    → AllByRecursion (λ c. substitution bs c.variable ≡ c.term) cs → AllByRecursion (λ c. substitution (b ∷ bs) c.variable ≡ c.term) cs
 one_more b bs [] u h = tt
 one_more b bs (c ∷ cs) u h = (
   cond_no (eqb b.variable c.variable) b.term (substitution bs c.variable)
@@ -69,7 +69,7 @@ one_more b bs (c ∷ cs) u h = (
   one_more b bs cs u.1 h.1,
 )
 
-pub each_goes : (bs : List Binding) → BoundOnce bs → All (λ b. substitution bs b.variable ≡ b.term) bs
+pub each_goes : (bs : List Binding) → BoundOnce bs → AllByRecursion (λ b. substitution bs b.variable ≡ b.term) bs
 each_goes [] h = tt
 each_goes (b ∷ bs) h = (
   cond_yes (eqb b.variable b.variable) b.term (substitution bs b.variable) (eqb_refl b.variable),
@@ -80,7 +80,7 @@ at_first : (x : Bool) (s t u : Term) → (T x → s ≡ u) → ((T x → ⊥) �
 at_first true s t u f g = f tt
 at_first false s t u f g = g (λ q. q)
 
-only_one : (bs : List Binding) (σ : Substitution) → All (λ b. σ b.variable ≡ b.term) bs
+only_one : (bs : List Binding) (σ : Substitution) → AllByRecursion (λ b. σ b.variable ≡ b.term) bs
     → (i : ℕ) → (Unbound bs i → σ i ≡ var i) → substitution bs i ≡ σ i
 only_one [] σ h i o = sym (o tt)
 only_one (b ∷ bs) σ h i o =

@@ -1,7 +1,7 @@
 -- What instantiate allows follows: a valuation of the instance, with the values of the terms for the variables, is a
 -- valuation of the premise.
 use Rattle.std.proofs.Common.{◌≡◌, cond, not, ◌||◌, T, eqb, [], ◌∷◌, sym, refl, ap, subst, ap₂}
-use Rattle.std.specs.List.{AllByRecursion as All}
+use Rattle.std.specs.List.{AllByRecursion}
 use Rattle.logic.specs.Syntax.{Term, Terms, Atom, Literal, Clause, var, app, []ₜ, ◌∷ₜ◌, predicate, equal}
 use Rattle.logic.specs.Structures.{Structure, Valuation, Element, OfElements, value, values, atom_truth, literal_truth, clause_truth}
 use Rattle.inference.specs.Law.{Follows}
@@ -17,7 +17,7 @@ module _ (S : Structure) (v : Valuation) (elements : OfElements S v) where
     value_in (var i) = elements i
     value_in (app s ts) = S.closed s (values S v ts) (values_in ts)
 
-    values_in : (ts : Terms) → All (Element S.size) (values S v ts)
+    values_in : (ts : Terms) → AllByRecursion (Element S.size) (values S v ts)
     values_in []ₜ = tt
     values_in (t ∷ₜ ts) = (value_in t, values_in ts)
 

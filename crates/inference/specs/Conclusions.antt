@@ -1,6 +1,6 @@
 -- The conclusions that each inference rule gives, in terms of the trees alone.
 use Rattle.std.specs.Prelude.{◌≡◌, ℕ, ◌<◌, ◌≤◌, false, not, ◌⊎◌, List, [], ◌∷◌, ◌++◌, length, Some, ◌≢◌}
-use Rattle.std.specs.List.{AllByRecursion as All}
+use Rattle.std.specs.List.{AllByRecursion}
 use Rattle.logic.specs.Syntax.{Term, Literal, Clause, var, equal}
 use Rattle.logic.specs.Literals.{literal}
 use Rattle.inference.specs.Literals.{without, with_literal}
@@ -22,7 +22,7 @@ equality_of s t = record { negated = false; atom = equal s t }
 
 -- none of the bindings binds variable i
 abbrev pub Unbound : List Binding → ℕ → Type 0
-Unbound bs i = All (λ b. b.variable ≢ i) bs
+Unbound bs i = AllByRecursion (λ b. b.variable ≢ i) bs
 
 -- no variable is bound twice
 abbrev pub BoundOnce : List Binding → Type 0
@@ -31,7 +31,7 @@ BoundOnce (b ∷ bs) = Unbound bs b.variable × BoundOnce bs
 
 -- the substitution gives each bound variable its term, and each other variable itself
 pub record Replaces (bs : List Binding) (σ : Substitution) : Type 0 where
-  pub bound : All (λ b. σ b.variable ≡ b.term) bs
+  pub bound : AllByRecursion (λ b. σ b.variable ≡ b.term) bs
   pub others : (i : ℕ) → Unbound bs i → σ i ≡ var i
 
 -- the conclusion is the premise with each bound variable replaced by its term, all at once

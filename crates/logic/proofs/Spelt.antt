@@ -1,7 +1,7 @@
 -- Reading the words of a lawful clause gives back the clause.
 use Rattle.std.proofs.Common.{◌≡◌, ℕ, zero, suc, ◌+◌, ◌-◌, ◌<◌, Bool, true, false, cond, ◌&&◌, eqb, ltb, List, [], ◌∷◌, ◌++◌, get_or, sym, refl, ap, ◌∙◌, subst, ap₂, append_assoc, append-nil, zero-add, arith}
 use mathlib.Core.List.{append_cancel_left}
-use Rattle.std.specs.List.{AllByRecursion as All}
+use Rattle.std.specs.List.{AllByRecursion}
 use Rattle.std.proofs.lemmas.Bool.{lt-ltb, le-ltb, ne_eqb}
 use Rattle.logic.specs.declared.row.SymbolRow.{SymbolRow}
 use Rattle.logic.specs.declared.row.Kind.TheVariants.{Function, Predicate}
@@ -54,7 +54,7 @@ other-append (t ∷ₜ ts) us = other-append ts us
 module _ (rows : List SymbolRow) where
   -- every literal is lawful
   abbrev pub AllLawful : Clause → Type 0
-  AllLawful c = All (λ l. LawfulAtom rows l.atom) c
+  AllLawful c = AllByRecursion (λ l. LawfulAtom rows l.atom) c
 
   -- kinds, arities and variables are as in a lawful atom; the depth may be any
   abbrev pub FormedAtom : Atom → Type 0
@@ -63,7 +63,7 @@ module _ (rows : List SymbolRow) where
 
   -- the same of every literal; their number may be any
   abbrev pub Formed : Clause → Type 0
-  Formed c = All (λ l. FormedAtom l.atom) c
+  Formed c = AllByRecursion (λ l. FormedAtom l.atom) c
 
   pub formed_atom : (a : Atom) → LawfulAtom rows a → FormedAtom a
   formed_atom (predicate p ts) g = (g.0, g.1)

@@ -1,7 +1,7 @@
 -- Lawful clauses over symbol rows: kinds and arities as the rows say; variables, depth and literals within their limits.
 -- The names of the rows play no part in it.
 use Rattle.std.specs.Prelude.{ℕ, suc, ◌<◌, ◌≤◌, max, List, length}
-use Rattle.std.specs.List.{AllByRecursion as All}
+use Rattle.std.specs.List.{AllByRecursion}
 use Rattle.logic.specs.declared.row.SymbolRow.{SymbolRow}
 use Rattle.logic.specs.declared.row.Kind.TheVariants.{Function, Predicate}
 use Rattle.logic.specs.Limits as limits
@@ -39,7 +39,7 @@ module _ (rows : List SymbolRow) where
 
   -- with at most so many literals
   abbrev pub LawfulUpTo : ℕ → Clause → Type 0
-  LawfulUpTo most c = All (λ l. LawfulAtom l.atom) c × (length c ≤ most)
+  LawfulUpTo most c = AllByRecursion (λ l. LawfulAtom l.atom) c × (length c ≤ most)
 
   abbrev pub Lawful : Clause → Type 0
   Lawful c = LawfulUpTo limits.literals c

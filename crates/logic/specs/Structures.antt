@@ -1,6 +1,6 @@
 -- Structures, finite or countable, and what is true in one.
 use Rattle.std.specs.Prelude.{ℕ, ◌<◌, Bool, false, cond, not, ◌||◌, T, List, [], ◌∷◌, ◌==◌}
-use Rattle.std.specs.List.{AllByRecursion as All}
+use Rattle.std.specs.List.{AllByRecursion}
 use Rattle.logic.specs.Syntax.{Term, Terms, Atom, Literal, Clause, var, app, []ₜ, ◌∷ₜ◌, predicate, equal}
 
 -- the elements are the numbers below n, or all numbers
@@ -17,7 +17,7 @@ pub record Structure : Type 0 where
   pub size : Size
   pub inhabited : Element size 0
   pub function : ℕ → List ℕ → ℕ
-  pub closed : (s : ℕ) (row : List ℕ) → All (Element size) row → Element size (function s row)
+  pub closed : (s : ℕ) (row : List ℕ) → AllByRecursion (Element size) row → Element size (function s row)
   pub relation : ℕ → List ℕ → Bool
 
 abbrev pub Valuation : Type 0

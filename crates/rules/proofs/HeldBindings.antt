@@ -1,6 +1,6 @@
 -- Bindings as they are kept, beside the bindings on trees that they are.
 use Rattle.std.proofs.Common.{◌≡◌, ℕ, zero, suc, ◌+◌, ◌<◌, ◌≤◌, List, [], ◌∷◌, map, length, get_or, take, sym, ap, ◌∙◌, inl, inr, zero-add, arith}
-use Rattle.std.specs.List.{AllByRecursion as All}
+use Rattle.std.specs.List.{AllByRecursion}
 use Rattle.std.proofs.lemmas.List.{length-map, get_or-map, length-take-le, get_or-take}
 use Rattle.std.proofs.ByRecursion.{All-get_or, All-from_get_or}
 use Rattle.std.proofs.lemmas.List.FromFn.{length-map-range_with_len, get_or-map-range_with_len}
@@ -98,7 +98,7 @@ module _ (b : Bindings) (bs : List Binding) (room : Room b) (e : held b ≡ map 
         bound_apart bs once r.first r.second r.order l (sym (variable_at r.first k) ∙ r.same ∙ variable_at r.second l)
 
     -- where none stands twice, none is bound twice
-    pub once_unless_repeats : (rows : List SymbolRow) → All (LawfulBinding rows) bs → (Repeats vs → ⊥) → BoundOnce bs
+    pub once_unless_repeats : (rows : List SymbolRow) → AllByRecursion (LawfulBinding rows) bs → (Repeats vs → ⊥) → BoundOnce bs
     once_unless_repeats rows g n =
         apart_bound bs (λ j k h l q.
         let i : j < length bs = omega arith in

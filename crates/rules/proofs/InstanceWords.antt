@@ -1,6 +1,6 @@
 -- The words of an instance are those of the premise with each variable replaced by the words of its term.
 use Rattle.std.proofs.Common.{◌≡◌, ℕ, suc, ◌+◌, ◌<◌, ◌≤◌, Bool, true, false, cond, eqb, ltb, List, [], ◌∷◌, ◌++◌, sym, refl, ap, ◌∙◌, ap₂, append_assoc, append-nil, arith}
-use Rattle.std.specs.List.{AllByRecursion as All}
+use Rattle.std.specs.List.{AllByRecursion}
 use Rattle.std.proofs.lemmas.Bool.{lt-ltb, le-ltb, cond-true, cond-false}
 use Rattle.logic.specs.Limits as language
 use Rattle.logic.specs.declared.row.SymbolRow.{SymbolRow}
@@ -92,7 +92,7 @@ module _ (rows : List SymbolRow) where
   either_lawful true t u g h = g
   either_lawful false t u g h = h
 
-  pub lawful_substitution : (bs : List Binding) → All (LawfulBinding rows) bs → (i : ℕ) → i < language.variables → LawfulTerm rows (substitution bs i)
+  pub lawful_substitution : (bs : List Binding) → AllByRecursion (LawfulBinding rows) bs → (i : ℕ) → i < language.variables → LawfulTerm rows (substitution bs i)
   lawful_substitution [] g i h = h
   lawful_substitution (b ∷ bs) g i h =
       either_lawful (eqb b.variable i) b.term (substitution bs i) g.0.1 (lawful_substitution bs g.1 i h)

@@ -1,6 +1,6 @@
 -- What instantiate answers, from the tests on words.
 use Rattle.std.proofs.Common.{◌≡◌, ℕ, ◌<◌, Bool, true, false, List, [], ◌∷◌, map, length, get_or, take, Decides, sym, ap, ◌∙◌, inl, inr, arith}
-use Rattle.std.specs.List.{AllByRecursion as All}
+use Rattle.std.specs.List.{AllByRecursion}
 use Rattle.std.proofs.ByRecursion.{All-get_or, All-from_get_or}
 use Rattle.std.proofs.lemmas.Bool.{cases_lt}
 use Rattle.std.proofs.lemmas.Bool.Decides.{not_from_Decides, Decides-like}
@@ -28,7 +28,7 @@ use Rattle.rules.proofs.HeldBindings.{no_binding, counted, few, variable_nth, wo
 use Rattle.rules.proofs.InstanceWords.{word_image, variable_image, head_image, clause_images, formed_instance, lawful_substitution}
 
 -- kept bindings of variables that are bound once replace words as the bindings on trees do
-module _ (rows : List SymbolRow) (b : Bindings) (bs : List Binding) (room : Room b) (e : held b ≡ map kept_binding bs) (g : All (LawfulBinding rows) bs)
+module _ (rows : List SymbolRow) (b : Bindings) (bs : List Binding) (room : Room b) (e : held b ≡ map kept_binding bs) (g : AllByRecursion (LawfulBinding rows) bs)
     (once : BoundOnce bs) where
   -- a bound variable becomes the words of its term
   bound_words : (k : ℕ) → k < b.count → get_or b.variables k 0 < language.variables

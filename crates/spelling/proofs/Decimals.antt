@@ -4,7 +4,7 @@ use native.Mathlib.Nat.{mod-add-div}
 use Rattle.std.proofs.lemmas.Bool.Decides.{nat_tests}
 use Rattle.std.proofs.lemmas.Bool.{eq-eqb, le-leb, cases_lt}
 use Rattle.std.proofs.lemmas.Fmt.{decimal_by_steps, decimal_nonempty, decimal_digit, first_decimal}
-use Rattle.std.specs.List.{prefix_len, AllByRecursion as All}
+use Rattle.std.specs.List.{prefix_len, AllByRecursion}
 use Rattle.std.proofs.ByRecursion.{All-append}
 use Rattle.logic.specs.Names.{digit, name_byte}
 use Rattle.tokens.specs.Forms.{digits, decimal, value}
@@ -12,7 +12,7 @@ use Rattle.spelling.specs.Grammar.{Numeral}
 use Rattle.spelling.proofs.Answers.{both_true}
 
 abbrev Figures : List ℕ → Type 0
-Figures ds = All (λ b. digit b ≡ true) ds
+Figures ds = AllByRecursion (λ b. digit b ≡ true) ds
 
 digit_is : (d : ℕ) → d < 10 → digit (48 + d) ≡ true
 digit_is d h = grind (arith, nat_tests)
@@ -67,11 +67,11 @@ numeral_form n h =
 run_byte : (b : ℕ) → digit b ≡ true → name_byte b ≡ true
 run_byte b e = grind (arith, nat_tests)
 
-run_bytes : (ds : List ℕ) → Figures ds → All (λ b. name_byte b ≡ true) ds
+run_bytes : (ds : List ℕ) → Figures ds → AllByRecursion (λ b. name_byte b ≡ true) ds
 run_bytes [] a = tt
 run_bytes (d ∷ ds) a = (run_byte d a.0, run_bytes ds a.1)
 
-pub numeral_bytes : (n : ℕ) → n < 2 ^ 64 → All (λ b. name_byte b ≡ true) (numeral n)
+pub numeral_bytes : (n : ℕ) → n < 2 ^ 64 → AllByRecursion (λ b. name_byte b ≡ true) (numeral n)
 numeral_bytes n h = run_bytes (numeral n) (worth n h).0
 
 first_digit : (ds : List ℕ) → Figures ds → 0 < length ds → digit (get_or ds 0 0) ≡ true

@@ -1,6 +1,6 @@
 -- What the grammar spells is lawful.
 use Rattle.std.proofs.Common.{ℕ, ◌<◌, ◌≤◌, List, length, subst, arith}
-use Rattle.std.specs.List.{AllByRecursion as All}
+use Rattle.std.specs.List.{AllByRecursion}
 use Rattle.logic.specs.Syntax.{Term, Terms, Atom, Literal, Clause}
 use Rattle.logic.specs.Lawful.{count, deep, deeps, LawfulTerm, LawfulTerms, LawfulAtom, Lawful}
 use Rattle.logic.specs.Symbols.{row_at, Symbol}
@@ -41,7 +41,7 @@ module _ (table : List SymbolRow) (settled : (k : ℕ) → k < length table → 
   lawful_literal (positive x) = lawful_atom x
   lawful_literal (negative x) = lawful_atom x
 
-  lawful_literals : {c : Clause} {ts us : List Tok} → SpellsLiterals table c ts us → All (λ l. LawfulAtom table l.atom) c
+  lawful_literals : {c : Clause} {ts us : List Tok} → SpellsLiterals table c ts us → AllByRecursion (λ l. LawfulAtom table l.atom) c
   lawful_literals (no_literals) = tt
   lawful_literals (more_literals x y) = (lawful_literal x, lawful_literals y)
 

@@ -3,7 +3,7 @@ use Rattle.std.proofs.Common.{◌≡◌, ℕ, zero, suc, ◌+◌, ◌^◌, ◌<�
 use Rattle.std.proofs.lemmas.Bool.{cond-true, eq-eqb, lt-ltb}
 use Rattle.std.proofs.lemmas.List.{length-take-le}
 use Rattle.std.proofs.lemmas.Fmt.{length-decimal-le, decimal_nonempty}
-use Rattle.std.specs.List.{AllByRecursion as All}
+use Rattle.std.specs.List.{AllByRecursion}
 use Rattle.logic.specs.Names.{letter, digit, name_byte}
 use Rattle.logic.specs.Syntax.{Term, Terms, Atom, Clause, var, app, []ₜ, ◌∷ₜ◌, predicate, equal}
 use Rattle.logic.specs.Lawful.{count, deep, deeps, LawfulTerm, LawfulTerms, LawfulAtom, Lawful}
@@ -26,7 +26,7 @@ use Rattle.spelling.proofs.SealedTables.{clause_stays}
 
 -- the bytes of a run that has the class
 abbrev RunOf : Tok → List ℕ → Type 0
-RunOf t r = (class r ≡ t) × (0 < length r) × All (λ b. name_byte b ≡ true) r
+RunOf t r = (class r ≡ t) × (0 < length r) × AllByRecursion (λ b. name_byte b ≡ true) r
 
 abbrev Textual : Tok → Type 0
 Textual opens = Unit {0}
@@ -39,7 +39,7 @@ Textual (word r) = RunOf (word r) r
 spelled_run : (t : Tok) (r bs : List ℕ) (ts : List Tok) → RunOf t r → Spaced bs ts → Spaced (r ++ (32 ∷ bs)) (t ∷ ts)
 spelled_run t r bs ts q h = subst (λ x. Spaced (r ++ (32 ∷ bs)) (x ∷ ts)) q.0 (run r q.1 q.2 refl (space h))
 
-text : (ts : List Tok) → All Textual ts → (bs : List ℕ) × Spaced bs ts
+text : (ts : List Tok) → AllByRecursion Textual ts → (bs : List ℕ) × Spaced bs ts
 text [] a = ([], end)
 text (opens ∷ ts) a = let r = text ts a.1 in (40 ∷ r.0, opening r.1)
 text (closes ∷ ts) a = let r = text ts a.1 in (41 ∷ r.0, closing r.1)
@@ -82,10 +82,10 @@ module _ (table : List SymbolRow) (nameable : Nameable table) where
 
   -- a term before what follows it
   abbrev TermTokens : ℕ → Term → List Tok → Type 0
-  TermTokens room t us = (ts : List Tok) × SpellsTerm table room t ts us × (All Textual us → All Textual ts)
+  TermTokens room t us = (ts : List Tok) × SpellsTerm table room t ts us × (AllByRecursion Textual us → AllByRecursion Textual ts)
 
   abbrev TermsTokens : ℕ → Terms → List Tok → Type 0
-  TermsTokens room qs us = (ts : List Tok) × SpellsTerms table room qs ts us × (All Textual us → All Textual ts)
+  TermsTokens room qs us = (ts : List Tok) × SpellsTerms table room qs ts us × (AllByRecursion Textual us → AllByRecursion Textual ts)
 
   mutual
     term_tokens : (room : ℕ) (t : Term) (us : List Tok) → LawfulTerm table t → deep t ≤ room → TermTokens room t us
@@ -105,7 +105,7 @@ module _ (table : List SymbolRow) (nameable : Nameable table) where
         let q = term_tokens room t r.0 l.0 (omega arith) in
         (q.0, more_terms q.1 r.1, λ a. q.2 (r.2 a))
 
-  atom_tokens : (a : Atom) (us : List Tok) → LawfulAtom table a → (ts : List Tok) × SpellsAtom table a ts us × (All Textual us → All Textual ts)
+  atom_tokens : (a : Atom) (us : List Tok) → LawfulAtom table a → (ts : List Tok) × SpellsAtom table a ts us × (AllByRecursion Textual us → AllByRecursion Textual ts)
   atom_tokens (predicate p qs) us l =
       let r = terms_tokens 32 qs (closes ∷ us) l.1 l.2 in
       (word (name p) ∷ r.0, an_atom (named p _ (count qs) l.0) r.1, λ a. (word_text p l.0.1, r.2 (tt, a)))
@@ -118,20 +118,20 @@ module _ (table : List SymbolRow) (nameable : Nameable table) where
   not_text = (refl, omega arith, (refl, (refl, (refl, tt))))
 
   literal_tokens : (n : Bool) (a : Atom) (us : List Tok) → LawfulAtom table a
-      → (ts : List Tok) × SpellsLiteral table (record { negated = n; atom = a }) ts us × (All Textual us → All Textual ts)
+      → (ts : List Tok) × SpellsLiteral table (record { negated = n; atom = a }) ts us × (AllByRecursion Textual us → AllByRecursion Textual ts)
   literal_tokens false a us l = let r = atom_tokens a us l in (opens ∷ r.0, positive r.1, λ q. (tt, r.2 q))
   literal_tokens true a us l =
       let r = atom_tokens a (closes ∷ us) l in
       (opens ∷ word (codes "not") ∷ opens ∷ r.0, negative r.1, λ q. (tt, (not_text, (tt, r.2 (tt, q)))))
 
-  literals_tokens : (c : Clause) (us : List Tok) → All (λ l. LawfulAtom table l.atom) c → (ts : List Tok) × SpellsLiterals table c ts us × (All Textual us → All Textual ts)
+  literals_tokens : (c : Clause) (us : List Tok) → AllByRecursion (λ l. LawfulAtom table l.atom) c → (ts : List Tok) × SpellsLiterals table c ts us × (AllByRecursion Textual us → AllByRecursion Textual ts)
   literals_tokens [] us l = (us, no_literals, λ a. a)
   literals_tokens (x ∷ c) us l =
       let r = literals_tokens c us l.1 in
       let q = literal_tokens x.negated x.atom r.0 l.0 in
       (q.0, more_literals q.1 r.1, λ a. q.2 (r.2 a))
 
-  rule_tokens : (c : Clause) → Lawful table c → (step : ℕ) → 0 < step → step ≤ largest_number → (ts : List Tok) × SpellsRule table step c ts × All Textual ts
+  rule_tokens : (c : Clause) → Lawful table c → (step : ℕ) → 0 < step → step ≤ largest_number → (ts : List Tok) × SpellsRule table step c ts × AllByRecursion Textual ts
   rule_tokens c l step some small =
       let r = literals_tokens c (closes ∷ closes ∷ []) l.0 in
       let fits = small_64 step small in

@@ -4,7 +4,7 @@ use lib.Seq.{take-append_seam, drop-append_seam}
 use Rattle.std.proofs.lemmas.List.{drop-drop, take-append-drop, get_or-drop}
 use Rattle.std.proofs.lemmas.Bool.Decides.{nat_tests}
 use Rattle.std.proofs.lemmas.Bool.{eqb-true, leb-false, leb-true, le-leb, cond-true, cond-false}
-use Rattle.std.specs.List.{prefix_len, AllByRecursion as All, between}
+use Rattle.std.specs.List.{prefix_len, AllByRecursion, between}
 use Rattle.logic.specs.Names.{name_byte}
 use Rattle.tokens.specs.declared.byte.Class.{Class}
 use Rattle.tokens.specs.declared.byte.Class.TheVariants.{Space, Run}
@@ -39,7 +39,7 @@ spaces (x ∷ xs) ts h = go (within Space x) refl (spaces xs ts)
 -- ── A longest run in front ──
 
 abbrev Longest : List ℕ → ℕ → Type 0
-Longest xs n = All (λ b. name_byte b ≡ true) (take n xs) × RunEnds (drop n xs)
+Longest xs n = AllByRecursion (λ b. name_byte b ≡ true) (take n xs) × RunEnds (drop n xs)
 
 runs : (xs : List ℕ) → Longest xs (prefix_len (within Run) xs)
 runs [] = (tt, tt)
@@ -204,12 +204,12 @@ module _ (bs : List ℕ) where
       by true h = let same : b ≡ x = eqb-true b x h in let z : true ≡ false = sym e ∙ ap name_byte same ∙ f in z
       by false h = refl
 
-  leading_run : (r rest : List ℕ) → All (λ b. name_byte b ≡ true) r → RunEnds rest → prefix_len (within Run) (r ++ rest) ≡ length r
+  leading_run : (r rest : List ℕ) → AllByRecursion (λ b. name_byte b ≡ true) r → RunEnds rest → prefix_len (within Run) (r ++ rest) ≡ length r
   leading_run [] [] a ends = refl
   leading_run [] (x ∷ rest) a ends = none_in_front Run x rest ends
   leading_run (b ∷ r) rest a ends = more_in_front Run b (r ++ rest) a.0 ∙ ap suc (leading_run r rest a.1 ends)
 
-  run_found : (p b : ℕ) (r rest : List ℕ) (ts : List Tok) → drop p bs ≡ (b ∷ r) ++ rest → All (λ b. name_byte b ≡ true) (b ∷ r) → RunEnds rest
+  run_found : (p b : ℕ) (r rest : List ℕ) (ts : List Tok) → drop p bs ≡ (b ∷ r) ++ rest → AllByRecursion (λ b. name_byte b ≡ true) (b ∷ r) → RunEnds rest
       → Tokens bs (p + length (b ∷ r)) ts → Tokens bs p (class (b ∷ r) ∷ ts)
   run_found p b r rest ts e a ends there =
       let at = byte_at p b (r ++ rest) e in

@@ -1,6 +1,6 @@
 -- A line spells one step at most.
 use Rattle.std.proofs.Common.{◌≡◌, ℕ, ◌+◌, ◌<◌, ◌≤◌, Bool, List, [], ◌∷◌, map, length, take, replicate, sym, refl, ap, ◌∙◌, arith}
-use Rattle.std.specs.List.{AllByRecursion as All}
+use Rattle.std.specs.List.{AllByRecursion}
 use Rattle.logic.specs.Syntax.{Clause}
 use Rattle.logic.specs.Words.{term_words, clause_words}
 use Rattle.logic.specs.Lawful.{LawfulTerm}
@@ -24,7 +24,7 @@ use Rattle.spelling.proofs.StepExact.{steps_are_read_as_spelled, spelled_steps_a
 -- ── Bindings by their words ──
 
 abbrev LawfulBindings : List SymbolRow → List Binding → Type 0
-LawfulBindings table xs = All (λ (b : Binding). LawfulTerm table b.term) xs
+LawfulBindings table xs = AllByRecursion (λ (b : Binding). LawfulTerm table b.term) xs
 
 bindings_same : (table : List SymbolRow) (xs ys : List Binding) → LawfulBindings table xs → LawfulBindings table ys → map kept_binding xs ≡ map kept_binding ys → xs ≡ ys
 bindings_same table [] [] f g e = refl

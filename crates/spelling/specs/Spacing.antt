@@ -1,6 +1,6 @@
 -- The tokens of a line, with any spacing between them.
 use Rattle.std.specs.Prelude.{◌≡◌, ℕ, ◌<◌, true, false, List, [], ◌∷◌, ◌++◌, length}
-use Rattle.std.specs.List.{AllByRecursion as All}
+use Rattle.std.specs.List.{AllByRecursion}
 use Rattle.logic.specs.Names.{name_byte}
 use Rattle.tokens.specs.Tokens.{Tok, opens, closes, equals, class}
 
@@ -18,5 +18,5 @@ pub data Spaced : List ℕ → List Tok → Type 0 where
   closing : {bs : List ℕ} {ts : List Tok} → Spaced bs ts → Spaced (41 ∷ bs) (closes ∷ ts)
   equality : {bs : List ℕ} {ts : List Tok} → Spaced bs ts → Spaced (61 ∷ bs) (equals ∷ ts)
   run :
-      {bs : List ℕ} {ts : List Tok} (r : List ℕ) → 0 < length r → All (λ b. name_byte b ≡ true) r → RunEnds bs → Spaced bs ts
+      {bs : List ℕ} {ts : List Tok} (r : List ℕ) → 0 < length r → AllByRecursion (λ b. name_byte b ≡ true) r → RunEnds bs → Spaced bs ts
       → Spaced (r ++ bs) (class r ∷ ts)

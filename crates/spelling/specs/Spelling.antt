@@ -1,6 +1,6 @@
 -- What a rule line spells, and that reading finds exactly that.
 use Rattle.std.specs.Prelude.{◌≡◌, ℕ, ◌<◌, ◌≤◌, true, List, ◌++◌, length, take, drop, Some, Ok}
-use Rattle.std.specs.List.{prefix_len, AllByRecursion as All}
+use Rattle.std.specs.List.{prefix_len, AllByRecursion}
 use Rattle.logic.specs.Limits as limits
 use Rattle.logic.specs.Syntax.{Clause}
 use Rattle.logic.specs.Words.{clause_words}
@@ -89,7 +89,7 @@ SpelledRulesAreLawful =
 -- each symbol has a name that a line can spell, and no other has it before
 pub record Nameable (table : List SymbolRow) : Type 0 where
   pub form : (k : ℕ) → k < length table → SymbolName (name_of (row_at table k))
-  pub bytes : (k : ℕ) → k < length table → All (λ b. name_byte b ≡ true) (name_of (row_at table k))
+  pub bytes : (k : ℕ) → k < length table → AllByRecursion (λ b. name_byte b ≡ true) (name_of (row_at table k))
   pub class_is : (k : ℕ) → k < length table → class (name_of (row_at table k)) ≡ word (name_of (row_at table k))
   pub own : (k : ℕ) → k < length table → place_of_name table (name_of (row_at table k)) ≡ Some k
 
