@@ -5,7 +5,7 @@ ghost use Rattle.logic.specs.Directory.{FirstPlace, has_number, place_of_number}
 use crate::directory::{Keyed, find};
 
 /// An entry of the book: its step number, the place of its first word and its count of words.
-#[derive(Clone, Copy)]
+#[derive(Clone, Copy, PartialEq, Eq)]
 pub struct Entry {
     pub number: u32,
     pub start: u32,

@@ -13,14 +13,12 @@ use crate::row::{Kind, SymbolRow};
 fn arity_of(rows: &[SymbolRow], s: usize, kind: Kind) -> Option<usize>
     ensures { Arity rows.now s kind result }
 {
-    if s >= SYMBOLS || s >= rows.len() {
+    if s >= SYMBOLS {
         return None;
     }
-    let row = rows[s];
-    if !row.kind.is(kind) || row.arity as usize > ARGUMENTS {
-        return None;
-    }
-    Some(row.arity as usize)
+    let row = rows.get(s)?;
+    let arity = row.arity as usize;
+    (row.kind == kind && arity <= ARGUMENTS).then_some(arity)
 }
 
 /// The place behind n lawful terms of depth at most d that begin at i, if there are such.

@@ -23,5 +23,5 @@ pub use limits::{
 };
 pub use names::symbol_named;
 pub use row::{Kind, SymbolRow};
-pub use symbol::{Symbol, record};
+pub use symbol::{Symbol, is_name_byte, record};
 pub use words::{Span, literal_count, literal_span, same, terms_end};

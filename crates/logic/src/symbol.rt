@@ -7,7 +7,7 @@ use crate::limits::{ARGUMENTS, NAME_BYTES};
 use crate::row::{Kind, SymbolRow};
 
 /// A symbol record: a name of 1 to 16 lawful bytes, a kind, and an arity of at most 4.
-#[derive(Clone, Copy)]
+#[derive(Clone, Copy, PartialEq, Eq)]
 pub struct Symbol {
     name: [u8; NAME_BYTES],
     length: u8,
@@ -17,10 +17,10 @@ pub struct Symbol {
 }
 
 /// Whether a name may have this byte.
-fn is_name_byte(b: u8) -> bool
+pub fn is_name_byte(b: u8) -> bool
     ensures { result ≡ name_byte b }
 {
-    b >= b'a' && b <= b'z' || b >= b'0' && b <= b'9' || b == b'_'
+    matches!(b, b'a'..=b'z' | b'0'..=b'9' | b'_')
 }
 
 /// The record of a row: there is one exactly when the row's name and arity are lawful, and it has the row's parts.
@@ -30,10 +30,11 @@ pub fn record(row: &SymbolRow) -> Option<Symbol>
     if row.length < 1 || row.length as usize > NAME_BYTES || row.arity as usize > ARGUMENTS {
         return None;
     }
-    for k in 0..row.length {
-        if !is_name_byte(row.name[k as usize]) {
-            return None;
-        }
+    if !row.name[..row.length as usize]
+        .iter()
+        .all(|b| is_name_byte(*b))
+    {
+        return None;
     }
     Some(Symbol {
         name: row.name,

@@ -11,7 +11,7 @@ use crate::head::takes;
 use crate::row::SymbolRow;
 
 /// Words from a place up to, and without, another.
-#[derive(Clone, Copy)]
+#[derive(Clone, Copy, PartialEq, Eq)]
 pub struct Span {
     pub start: usize,
     pub end: usize,
