@@ -1,6 +1,7 @@
 -- Passing over words by counting: steps, bounds and sums.
 use Rattle.std.proofs.Common.{◌≡◌, ℕ, zero, suc, ◌+◌, ◌-◌, ◌<◌, ◌≤◌, min, List, [], ◌∷◌, length, get_or, drop, sym, refl, ap, ◌∙◌, inl, inr, not-suc-le-zero, add_assoc, suc-add, zero-add, arith, length-drop, drop-drop}
-use Rattle.std.proofs.lemmas.List.{drop_all, at_drop_more, drop_more}
+use Rattle.std.specs.List.{between}
+use Rattle.std.proofs.lemmas.List.{drop_all, take_all, at_drop_more, drop_more}
 use Rattle.std.proofs.lemmas.Bool.{cases_lt}
 use Rattle.logic.specs.Walks.{word_arity, passed, past, heads}
 
@@ -86,6 +87,16 @@ module _ (arity : ℕ → ℕ) where
   pub walk_out : (ws : List ℕ) (place due total : ℕ) → length ws ≤ place → place + passed arity due (drop place ws) ≡ total → place ≡ total
   walk_out ws place due total h g =
       omega (arith, ap (passed arity due) (drop_all place ws h), passed_nil due)
+
+  -- nothing is passed from a place behind the words on
+  pub passed_behind : (ws : List ℕ) (place n : ℕ) → length ws ≤ place → passed arity n (drop place ws) ≡ 0
+  passed_behind ws place n h = ap (passed arity n) (drop_all place ws h) ∙ passed_nil n
+
+  -- the words from a place on, lent as the range up to their end
+  pub passed_rest : (ws rest : List ℕ) (place n r : ℕ) → rest ≡ between place (length ws) ws → r ≡ passed arity n rest
+      → place + r ≡ place + passed arity n (drop place ws)
+  passed_rest ws rest place n r e f =
+      ap (λ k. place + k) (f ∙ ap (passed arity n) (e ∙ take_all (length ws - place) (drop place ws) (omega (arith, length-drop place ws))))
 
   -- ── Counting literals ──
 

@@ -1,5 +1,5 @@
 -- What a walk over words comes to, where the words are those of terms or of a clause.
-use Rattle.std.proofs.Common.{◌≡◌, ℕ, zero, suc, ◌+◌, ◌-◌, ◌<◌, ◌≤◌, Bool, ltb, List, ◌++◌, length, get_or, take, drop, Some, None, Decides, Option, sym, refl, ap, ◌∙◌, subst, ap₂, inl, inr, not-suc-le-zero, zero-add, add-one, arith}
+use Rattle.std.proofs.Common.{◌≡◌, ℕ, zero, suc, ◌+◌, ◌-◌, ◌<◌, ◌≤◌, Bool, ltb, List, ◌++◌, length, get_or, take, drop, Some, None, Decides, Option, sym, refl, ap, ◌∙◌, subst, ap₂, inl, inr, zero-add, add-one, arith}
 use Rattle.std.proofs.lemmas.Bool.{lt-ltb, le-ltb, cond-true, cond-false, cases_lt}
 use Rattle.logic.specs.declared.row.SymbolRow.{SymbolRow}
 use Rattle.logic.specs.declared.words.Span.{Span}
@@ -37,13 +37,11 @@ module _ (rows : List SymbolRow) (ws : List ℕ) where
 
   -- ── The span of a literal ──
 
-  pub span_none : (a start : ℕ) → 0 < a → start ≡ 0 + passed (arities rows) (a - 1) (drop 0 ws) → length ws ≤ start
+  pub span_none : (k a start : ℕ) → a ≡ suc k → start ≡ 0 + passed (arities rows) k ws → length ws ≤ start
       → None ≡ span_of (arities rows) ws a
-  span_none zero start p e h = absurd (not-suc-le-zero p)
-  span_none (suc k) start p e h =
-      let z : suc k - 1 ≡ k = omega arith in
-      let q : length ws ≤ passed (arities rows) k ws = omega (arith, ap (λ n. passed (arities rows) n ws) z) in
-      sym (cond-false (ltb (passed (arities rows) k ws) (length ws)) _ None (le-ltb (passed (arities rows) k ws) (length ws) q))
+  span_none k a start p e h =
+      sym (cond-false (ltb (passed (arities rows) k ws) (length ws)) _ None (le-ltb (passed (arities rows) k ws) (length ws) (omega arith)))
+      ∙ ap (span_of (arities rows) ws) (sym p)
 
   span_is : (k start end : ℕ) → start ≡ passed (arities rows) k ws → end ≡ start + passed (arities rows) 1 (drop start ws) → start < length ws
       → Some (record { start = start; end = end }) ≡ span_of (arities rows) ws (suc k)
@@ -56,13 +54,10 @@ module _ (rows : List SymbolRow) (ws : List ℕ) where
       ∙ sym (cond-true (ltb (passed (arities rows) k ws) (length ws)) (Some (record { start = passed (arities rows) k ws; end = passed (arities rows) (suc k) ws })) None
       (lt-ltb (passed (arities rows) k ws) (length ws) q))
 
-  pub span_some : (a start end : ℕ) → 0 < a → start ≡ 0 + passed (arities rows) (a - 1) (drop 0 ws)
-      → end ≡ start + passed (arities rows) 1 (drop start ws) → start < length ws
-      → Some (record { start = start; end = end }) ≡ span_of (arities rows) ws a
-  span_some zero start end p e f h = absurd (not-suc-le-zero p)
-  span_some (suc k) start end p e f h =
-      let z : suc k - 1 ≡ k = omega arith in
-      span_is k start end (e ∙ zero-add (passed (arities rows) (suc k - 1) ws) ∙ ap (λ n. passed (arities rows) n ws) z) f h
+  pub span_some : (k a start end : ℕ) → a ≡ suc k → start ≡ 0 + passed (arities rows) k ws → end ≡ start + passed (arities rows) 1 (drop start ws)
+      → start < length ws → Some (record { start = start; end = end }) ≡ span_of (arities rows) ws a
+  span_some k a start end p e f h =
+      span_is k start end (e ∙ zero-add (passed (arities rows) k ws)) f h ∙ ap (span_of (arities rows) ws) (sym p)
 
   -- ── The literal of a clause ──
 

@@ -1,9 +1,10 @@
 -- The literals of a clause by their numbers, counted from 1, and where they lie in the words.
 use Rattle.std.specs.Prelude.{◌≡◌, ℕ, zero, suc, ◌+◌, ◌-◌, ◌<◌, ◌≤◌, false, cond, ◌⊎◌, List, ◌++◌, length, take, drop, Some, None, Option, MatchOption, nat_lt, slice_index_or}
+use Rattle.logic.specs.declared.literals.Literals.{Literals}
 use Rattle.logic.specs.declared.words.Span.{Span}
 use Rattle.logic.specs.Syntax.{Literal, Clause, var, equal}
 use Rattle.logic.specs.Words.{literal_words, clause_words}
-use Rattle.logic.specs.Walks.{passed}
+use Rattle.logic.specs.Walks.{arities, passed, literals_from}
 
 -- what stands for a literal past the end
 abbrev pub no_literal : Literal
@@ -30,3 +31,7 @@ pub record Lies (c : Clause) (a : ℕ) (s : Span) : Type 0 where
 -- the clause has no literal a, or it lies at the span
 abbrev pub LiteralAt : Clause → ℕ → Option Span → Type 0
 LiteralAt c a r = MatchOption r ((a ≡ 0) ⊎ (length c < a)) (λ s. Lies c a s)
+
+-- the words of each literal that is still to come
+abbrev pub literals_left : Literals → List (List ℕ)
+literals_left it = literals_from (arities it.rows.now) 0 it.words.now

@@ -37,6 +37,12 @@ heads arity n [] = 0
 heads arity zero (w ∷ ws) = suc (heads arity (word_arity arity w) ws)
 heads arity (suc n) (w ∷ ws) = heads arity (word_arity arity w + n) ws
 
+-- the words of each literal that begins in the words behind n terms; the words of the last end where the words end, if not before
+unfoldable pub literals_from : (ℕ → ℕ) → ℕ → List ℕ → List (List ℕ)
+literals_from arity n [] = []
+literals_from arity zero (w ∷ ws) = (w ∷ take (passed arity (word_arity arity w) ws) ws) ∷ literals_from arity (word_arity arity w) ws
+literals_from arity (suc n) (w ∷ ws) = literals_from arity (word_arity arity w + n) ws
+
 -- where literal k of a clause, counted from 0, begins in its words
 abbrev pub begins : Clause → ℕ → ℕ
 begins c k = length (clause_words (take k c))

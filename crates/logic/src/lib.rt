@@ -7,6 +7,7 @@ mod head;
 mod injective;
 mod lawful;
 mod limits;
+mod literals;
 mod names;
 mod row;
 mod symbol;
@@ -21,7 +22,8 @@ pub use limits::{
     ARGUMENTS, DEPTH, EQUALITY_WORD, LITERALS, NAME_BYTES, NEGATION, SYMBOL_WORD, SYMBOLS,
     VARIABLES,
 };
+pub use literals::{Literals, literal_count, literal_span};
 pub use names::symbol_named;
 pub use row::{Kind, SymbolRow};
 pub use symbol::{Symbol, is_name_byte, record};
-pub use words::{Span, literal_count, literal_span, same, terms_end};
+pub use words::{Span, same, terms_end};
