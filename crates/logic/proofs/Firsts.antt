@@ -1,5 +1,7 @@
 -- What the first place is, by places.
-use Rattle.std.proofs.Common.{◌≡◌, ℕ, zero, suc, ◌<◌, ◌≤◌, Bool, true, false, eqb, List, [], ◌∷◌, length, get_or, Some, None, Decides, Option, sym, refl, ap, ◌∙◌, subst, inl, inr, le_of_suc-le-suc, not-suc-le-zero, arith, rules}
+use Rattle.std.proofs.Common.{◌≡◌, ℕ, zero, suc, ◌+◌, ◌<◌, ◌≤◌, Bool, true, false, cond, eqb, List, [], ◌∷◌, length, get_or, Some, None, Decides, Option, sym, refl, ap, ◌∙◌, subst, inl, inr, le_of_suc-le-suc, not-suc-le-zero, zero-add, arith, rules}
+use Rattle.std.specs.List.{position, position_from}
+use Rattle.std.proofs.lemmas.Iterator.Adapters.{position_from-zero}
 use Rattle.std.specs.Option.{option_map}
 use Rattle.std.proofs.lemmas.Bool.{cond-true, cond-false, cases_Bool, both_ways, eqb-true, eq-eqb}
 use Rattle.std.proofs.lemmas.Slice.Eq.{bytes_eq-Decides}
@@ -41,6 +43,25 @@ module _ {A : Type 0} (p : A → Bool) where
   first_some (x ∷ xs) (suc i) d l e h =
       cond-false (p x) (Some 0) (option_map suc (first_that p xs)) (h 0 x (omega arith))
       ∙ ap (option_map suc) (first_some xs i d (le_of_suc-le-suc l) e (later x xs i h))
+
+  -- the first place, as the library counts it from a place i
+  one_further : (i : ℕ) (b : Bool) (r : Option ℕ)
+      → cond b (Some i) (option_map (λ k. i + 1 + k) r) ≡ option_map (λ k. i + k) (cond b (Some 0) (option_map suc r))
+  one_further i true r = ap Some (omega arith)
+  one_further i false None = refl
+  one_further i false (Some k) = ap Some (omega arith)
+
+  from_place : (xs : List A) (i : ℕ) → position_from p i xs ≡ option_map (λ k. i + k) (first_that p xs)
+  unfolding first_that
+  from_place [] i = refl
+  from_place (x ∷ xs) i = ap (cond (p x) (Some i)) (from_place xs (i + 1)) ∙ one_further i (p x) (first_that p xs)
+
+  from_zero : (r : Option ℕ) → option_map (λ k. 0 + k) r ≡ r
+  from_zero None = refl
+  from_zero (Some k) = ap Some (zero-add k)
+
+  pub position_is : (xs : List A) → position p xs ≡ first_that p xs
+  position_is xs = position_from-zero p xs ∙ from_place xs 0 ∙ from_zero (first_that p xs)
 
   module _ (Sought : A → Type 0) (decides : (x : A) → Decides (p x) (Sought x)) where
     not_here : (x : A) → p x ≡ false → Sought x → ⊥

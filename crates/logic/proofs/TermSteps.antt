@@ -1,5 +1,5 @@
 -- One step of reading terms.
-use Rattle.std.proofs.Common.{◌≡◌, ℕ, ◌+◌, ◌-◌, ◌<◌, ◌≤◌, ◌⊎◌, List, [], ◌∷◌, ◌++◌, length, get_or, drop, Some, None, Option, sym, refl, ap, ◌∙◌, subst, inl, inr, append_assoc, add-one, arith, length-append, drop_of_length-le, drop-cons}
+use Rattle.std.proofs.Common.{◌≡◌, ℕ, ◌+◌, ◌-◌, ◌<◌, ◌≤◌, ◌⊎◌, List, [], ◌∷◌, ◌++◌, length, get_or, drop, Some, None, Option, sym, refl, ap, ◌∙◌, subst, ap₂, inl, inr, append_assoc, add-one, arith, length-append, drop_of_length-le, drop-cons}
 use Rattle.logic.specs.declared.row.SymbolRow.{SymbolRow}
 use Rattle.logic.specs.declared.row.Kind.{Kind}
 use Rattle.logic.specs.declared.row.Kind.TheVariants.{Function}
@@ -115,29 +115,29 @@ module _ (rows : List SymbolRow) where
 
   -- ── At a place ──
 
-  module _ (d n : ℕ) (ws : List ℕ) (i : ℕ) (inside : i < length ws) (some_due : 0 < n) where
-    here : drop i ws ≡ get_or ws i 0 ∷ drop (i + 1) ws
-    here = drop-cons ws i 0 inside ∙ ap (λ k. get_or ws i 0 ∷ drop k ws) (sym (add-one i))
+  module _ (d n : ℕ) (ws : List ℕ) (i w : ℕ) (inside : i < length ws) (is : w ≡ get_or ws i 0) (some_due : 0 < n) where
+    here : drop i ws ≡ w ∷ drop (i + 1) ws
+    here = drop-cons ws i 0 inside ∙ ap₂ (λ x k. x ∷ drop k ws) (sym is) (sym (add-one i))
 
     from_here : (rest : List ℕ) → Reads rows d n (drop i ws) rest
-        → ((get_or ws i 0 < 64) × Reads rows d (n - 1) (drop (i + 1) ws) rest) ⊎ AfterSymbol d n (get_or ws i 0) (drop (i + 1) ws) rest
-    from_here rest r = first_word d n (get_or ws i 0) (drop (i + 1) ws) rest some_due (subst (λ (xs : List ℕ). Reads rows d n xs rest) here r)
+        → ((w < 64) × Reads rows d (n - 1) (drop (i + 1) ws) rest) ⊎ AfterSymbol d n w (drop (i + 1) ws) rest
+    from_here rest r = first_word d n w (drop (i + 1) ws) rest some_due (subst (λ (xs : List ℕ). Reads rows d n xs rest) here r)
 
-    pub ends_var : (r : Option ℕ) → 0 < d → get_or ws i 0 < 64 → Ends rows d (n - 1) ws (i + 1) r → Ends rows d n ws i r
+    pub ends_var : (r : Option ℕ) → 0 < d → w < 64 → Ends rows d (n - 1) ws (i + 1) r → Ends rows d n ws i r
     ends_var None k l h = λ rest r. elim (from_here rest r) [ inl q ↦ h rest q.1 | inr q ↦ omega (arith, q.low) ]
     ends_var (Some j) k l h = (
       omega (arith, h.0),
       h.1,
-      rw here (with_var d n (get_or ws i 0) (drop (i + 1) ws) (drop j ws) some_due k l h.2),
+      rw here (with_var d n w (drop (i + 1) ws) (drop j ws) some_due k l h.2),
     )
 
-    pub ends_between : 64 ≤ get_or ws i 0 → get_or ws i 0 < 256 → (rest : List ℕ) → Reads rows d n (drop i ws) rest → ⊥
+    pub ends_between : 64 ≤ w → w < 256 → (rest : List ℕ) → Reads rows d n (drop i ws) rest → ⊥
     ends_between l m rest r = elim (from_here rest r) [ inl q ↦ omega (arith, q.0) | inr q ↦ omega (arith, q.low) ]
 
-    pub ends_unknown : 256 ≤ get_or ws i 0 → ((a : ℕ) → Symbol rows (get_or ws i 0 - 256) Function a → ⊥) → (rest : List ℕ) → Reads rows d n (drop i ws) rest → ⊥
+    pub ends_unknown : 256 ≤ w → ((a : ℕ) → Symbol rows (w - 256) Function a → ⊥) → (rest : List ℕ) → Reads rows d n (drop i ws) rest → ⊥
     ends_unknown l f rest r = elim (from_here rest r) [ inl q ↦ omega (arith, q.0) | inr q ↦ f q.arity q.symbol ]
 
-    pub ends_inner : (a : ℕ) → 256 ≤ get_or ws i 0 → Symbol rows (get_or ws i 0 - 256) Function a
+    pub ends_inner : (a : ℕ) → 256 ≤ w → Symbol rows (w - 256) Function a
         → ((rest : List ℕ) → Reads rows (d - 1) a (drop (i + 1) ws) rest → ⊥)
         → (rest : List ℕ) → Reads rows d n (drop i ws) rest → ⊥
     ends_inner a l s h rest r = elim (from_here rest r) [
@@ -145,7 +145,7 @@ module _ (rows : List SymbolRow) where
       | inr q ↦ h q.mid (subst (λ (k : ℕ). Reads rows (d - 1) k (drop (i + 1) ws) q.mid) (one_arity _ _ _ _ q.symbol s) q.inner)
     ]
 
-    pub ends_symbol : (a k : ℕ) (r : Option ℕ) → 0 < d → 256 ≤ get_or ws i 0 → Symbol rows (get_or ws i 0 - 256) Function a
+    pub ends_symbol : (a k : ℕ) (r : Option ℕ) → 0 < d → 256 ≤ w → Symbol rows (w - 256) Function a
         → i + 1 ≤ k → Reads rows (d - 1) a (drop (i + 1) ws) (drop k ws)
         → Ends rows d (n - 1) ws k r → Ends rows d n ws i r
     ends_symbol a k None p l s q g h = λ rest r. elim (from_here rest r) [
@@ -157,9 +157,13 @@ module _ (rows : List SymbolRow) where
     ends_symbol a k (Some j) p l s q g h = (
       omega (arith, h.0),
       h.1,
-      rw here (with_symbol d n (get_or ws i 0) (drop (i + 1) ws) (drop j ws) some_due p
+      rw here (with_symbol d n w (drop (i + 1) ws) (drop j ws) some_due p
           (record { low = l; arity = a; symbol = s; mid = drop k ws; inner = g; others = h.2 })),
     )
+
+  -- where no words begin with such terms, there is no place behind them
+  pub no_end : (d n : ℕ) (ws : List ℕ) (i : ℕ) (r : Option ℕ) → r ≡ None → ((rest : List ℕ) → Reads rows d n (drop i ws) rest → ⊥) → Ends rows d n ws i r
+  no_end d n ws i r e h = subst (Ends rows d n ws i) (sym e) h
 
   pub at_end : (d n : ℕ) (ws : List ℕ) (i : ℕ) → length ws ≤ i → 0 < n → (rest : List ℕ) → Reads rows d n (drop i ws) rest → ⊥
   at_end d n ws i h k rest r = no_words d n rest k (subst (λ (xs : List ℕ). Reads rows d n xs rest) (drop_of_length-le ws h) r)

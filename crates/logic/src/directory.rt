@@ -15,10 +15,5 @@ pub trait Keyed<Q> {
 pub fn find<Q, R: Keyed<Q>>(rows: &[R], key: &Q) -> Option<usize>
     ensures { result ≡ first_that (λ row. R.Keyed.has row key.now) rows.now }
 {
-    for (i, row) in rows.iter().enumerate() {
-        if row.is(key) {
-            return Some(i);
-        }
-    }
-    None
+    rows.iter().position(|row| row.is(key))
 }

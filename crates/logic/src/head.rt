@@ -23,11 +23,7 @@ pub(crate) fn without_sign(word: u32) -> u32
 fn arity_at(rows: &[SymbolRow], s: usize) -> usize
     ensures { result ≡ arities rows.now s }
 {
-    if s < rows.len() {
-        rows[s].arity as usize
-    } else {
-        0
-    }
+    rows.get(s).map_or(0, |row| row.arity as usize)
 }
 
 /// How many arguments a word takes: none for a variable, two for equality, and for a symbol as many as its row says.

@@ -2,8 +2,6 @@
 ghost use Rattle.logic.specs.Injective.{WordsDetermineTheClause};
 
 /// States that two lawful clauses with the same words are the same clause.
-pub fn words_determine_the_clause() -> u8
+pub fn words_determine_the_clause()
     ensures { WordsDetermineTheClause }
-{
-    0
-}
+{}

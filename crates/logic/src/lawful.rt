@@ -29,26 +29,19 @@ fn lawful_end(words: &[u32], rows: &[SymbolRow], i: usize, n: usize, d: usize) -
     if n == 0 {
         return Some(i);
     }
-    if i >= words.len() {
-        return None;
-    }
+    let w = *words.get(i)?;
     if d == 0 {
         return None;
     }
-    let w = words[i];
     if w < VARIABLES {
         return lawful_end(words, rows, i + 1, n - 1, d);
     }
     if w < SYMBOL_WORD {
         return None;
     }
-    let Some(arity) = arity_of(rows, (w - SYMBOL_WORD) as usize, Kind::Function) else {
-        return None;
-    };
-    match lawful_end(words, rows, i + 1, arity, d - 1) {
-        None => None,
-        Some(j) => lawful_end(words, rows, j, n - 1, d),
-    }
+    let arity = arity_of(rows, (w - SYMBOL_WORD) as usize, Kind::Function)?;
+    let j = lawful_end(words, rows, i + 1, arity, d - 1)?;
+    lawful_end(words, rows, j, n - 1, d)
 }
 
 /// How many arguments the word takes as the head of a literal, if it is one.

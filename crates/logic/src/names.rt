@@ -1,24 +1,18 @@
 //! Rows of the symbol store, found by their names.
-ghost use Rattle.std.specs.Prelude.{◌≡◌, take};
+ghost use Rattle.std.specs.Prelude.{◌≡◌};
 ghost use Rattle.logic.specs.Directory.{FirstPlace, has_name, place_of_name};
 ghost use Rattle.logic.specs.Symbols.{name_of};
 
 use crate::directory::{Keyed, find};
+use crate::limits::NAME_BYTES;
 use crate::row::SymbolRow;
-
-/// The first n bytes, or all where there are fewer.
-fn front(bytes: &[u8], n: usize) -> &[u8]
-    ensures { result.now ≡ take n bytes.now }
-{
-    if n < bytes.len() { &bytes[0..n] } else { bytes }
-}
 
 /// A row has the bytes of its name as a key.
 impl<'a> Keyed<&'a [u8]> for SymbolRow {
     ghost has = { λ row name. has_name row name.now };
 
     fn is(&self, key: &&'a [u8]) -> bool {
-        front(&self.name, self.length as usize) == *key
+        &self.name[..(self.length as usize).min(NAME_BYTES)] == *key
     }
 }
 

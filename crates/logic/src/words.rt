@@ -1,5 +1,6 @@
 //! Walking over words by counting how many terms are still due.
 ghost use Rattle.std.specs.Prelude.{◌≡◌, ℕ, ◌+◌, ◌<◌, ◌≤◌, List, ◌++◌, length, drop, IfSome, Decides};
+ghost use Rattle.std.specs.Str.{bytes_eq};
 ghost use Rattle.logic.specs.declared.row.SymbolRow.{SymbolRow as Row};
 ghost use Rattle.logic.specs.Syntax.{Terms, Clause};
 ghost use Rattle.logic.specs.Words.{terms_words, clause_words};
@@ -48,6 +49,7 @@ pub fn terms_end(words: &[u32], rows: &[SymbolRow], from: usize, n: usize) -> us
 /// Whether two rows of words are the same; where they are those of clauses, whether the clauses are.
 // More than `==` of slices: its contract carries the theorem that clauses with the same words are the same.
 pub fn same(x: &[u32], y: &[u32]) -> bool
+    ensures is { result ≡ bytes_eq x.now y.now }
     ensures words { Decides result (x.now ≡ y.now) }
     ensures clauses { (rows : List Row) (c d : Clause) → Lawful rows c → Lawful rows d → x.now ≡ clause_words c → y.now ≡ clause_words d → Decides result (c ≡ d) }
 {

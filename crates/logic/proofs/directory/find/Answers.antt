@@ -1,13 +1,12 @@
-use Rattle.std.proofs.Common.{sym, ap, ◌∙◌, arith}
-use Rattle.logic.proofs.Firsts.{first_none_at, first_some}
+use Rattle.std.proofs.Common.{◌∙◌, rules}
+use Rattle.std.proofs.lemmas.Iterator.{YieldsList-from_slice}
+use Rattle.std.proofs.lemmas.Iterator.Search.{position_from_yields_List}
+use Rattle.logic.proofs.Firsts.{position_is}
+use borrow.Author.Tests.{tests}
 use Rattle.logic.proofs.directory.find.Goals as goal
-
-pub returns-then-is : goal.returns-then-is
-returns-then-is g c =
-    sym
-    (first_some (λ row. g.R.Keyed.has row c.args.key.now) c.args.rows.now c.loop-i.i c.index-rows-i.result (omega arith)
-    (ap (λ row. g.R.Keyed.has row c.args.key.now) (sym c.index-rows-i.is) ∙ sym c.if-is.ensures) c.loop-i.invariant)
 
 pub returns : goal.returns
 returns g c =
-    sym (first_none_at (λ row. g.R.Keyed.has row c.args.key.now) c.args.rows.now c.loop-i.i (omega arith) c.loop-i.invariant)
+    position_from_yields_List (λ row. g.R.Keyed.has row c.args.key.now) c.position.new.self _ _ c.position.ensures.ran
+    (YieldsList-from_slice c.args.rows.now c.iter.ensures.rest) (λ x b q k. search (rules, tests))
+    ∙ position_is (λ row. g.R.Keyed.has row c.args.key.now) c.args.rows.now
