@@ -1,22 +1,10 @@
 -- What the first place is, by places.
-use Rattle.std.proofs.Common.{◌≡◌, ℕ, zero, suc, ◌+◌, ◌<◌, ◌≤◌, Bool, true, false, cond, eqb, List, [], ◌∷◌, length, get_or, Some, None, Decides, Option, sym, refl, ap, ◌∙◌, subst, inl, inr, le_of_suc-le-suc, not-suc-le-zero, zero-add, arith, rules}
+use Rattle.std.proofs.Common.{◌≡◌, ℕ, zero, suc, ◌+◌, ◌<◌, Bool, true, false, cond, List, [], ◌∷◌, length, get_or, Some, None, Decides, Option, sym, refl, ap, ◌∙◌, subst, inl, inr, le_of_suc-le-suc, not-suc-le-zero, zero-add, arith}
 use Rattle.std.specs.List.{position, position_from}
 use Rattle.std.proofs.lemmas.Iterator.Adapters.{position_from-zero}
 use Rattle.std.specs.Option.{option_map}
-use Rattle.std.proofs.lemmas.Bool.{cond-true, cond-false, cases_Bool, both_ways, eqb-true, eq-eqb}
-use Rattle.std.proofs.lemmas.Slice.Eq.{bytes_eq-Decides}
-use Rattle.std.specs.Str.{bytes_eq}
+use Rattle.std.proofs.lemmas.Bool.{cond-true, cond-false, cases_Bool, both_ways}
 use Rattle.logic.specs.Directory.{first_that, FirstPlace}
-
--- ── Tests of sameness ──
-
-pub tested : (xs ys : List ℕ) (r : Bool) → Decides r (xs ≡ ys) → r ≡ bytes_eq xs ys
-tested xs ys r h = search (rules, bytes_eq-Decides)
-
-pub eqb_decides : (m n : ℕ) → Decides (eqb m n) (m ≡ n)
-eqb_decides m n = (eqb-true m n, eq-eqb m n)
-
--- ── The first place ──
 
 module _ {A : Type 0} (p : A → Bool) where
   -- the test fails at each place below i
@@ -32,9 +20,6 @@ module _ {A : Type 0} (p : A → Bool) where
   first_none (x ∷ xs) h =
       cond-false (p x) (Some 0) (option_map suc (first_that p xs)) (h 0 x (omega arith))
       ∙ ap (option_map suc) (first_none xs (later x xs (length xs) h))
-
-  pub first_none_at : (xs : List A) (i : ℕ) → length xs ≤ i → NoneBelow xs i → first_that p xs ≡ None
-  first_none_at xs i l h = first_none xs (λ k d m. h k d (omega arith))
 
   pub first_some : (xs : List A) (i : ℕ) (d : A) → i < length xs → p (get_or xs i d) ≡ true → NoneBelow xs i → first_that p xs ≡ Some i
   unfolding first_that

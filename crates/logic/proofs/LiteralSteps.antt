@@ -1,5 +1,5 @@
 -- One literal of a clause's words.
-use Rattle.std.proofs.Common.{◌≡◌, ℕ, ◌+◌, ◌-◌, ◌<◌, ◌≤◌, Bool, true, false, cond, ltb, List, [], ◌∷◌, ◌++◌, length, get_or, drop, Some, None, Decides, Option, sym, refl, ap, ◌∙◌, subst, inl, inr, append-nil, add-one, arith, drop_of_length-le, drop-cons}
+use Rattle.std.proofs.Common.{◌≡◌, ℕ, ◌+◌, ◌-◌, ◌<◌, ◌≤◌, Bool, true, false, cond, ltb, List, [], ◌∷◌, ◌++◌, length, get_or, drop, Decides, sym, refl, ap, ◌∙◌, subst, inl, inr, append-nil, add-one, arith, drop-cons}
 use Rattle.std.proofs.lemmas.Bool.{lt-ltb, le-ltb, cond-true, cond-false, cases_lt, false≢true}
 use Rattle.logic.specs.declared.row.SymbolRow.{SymbolRow}
 use Rattle.logic.specs.declared.row.Kind.TheVariants.{Predicate}
@@ -8,7 +8,7 @@ use Rattle.logic.specs.Syntax.{Terms, Atom, Clause, []ₜ, ◌∷ₜ◌, predica
 use Rattle.logic.specs.Words.{term_words, terms_words, literal_words, clause_words}
 use Rattle.logic.specs.Lawful.{count, deeps, LawfulTerms, LawfulAtom}
 use Rattle.logic.specs.Walks.{bare}
-use Rattle.logic.specs.Reads.{Arity, Reads, Takes, Taken, Spells}
+use Rattle.logic.specs.Reads.{Reads, Takes, Spells}
 use Rattle.logic.proofs.Spelt.{AllLawful}
 use Rattle.logic.proofs.TermSteps.{unique, one_arity}
 
@@ -32,18 +32,6 @@ module _ (rows : List SymbolRow) where
   takes_one w a b (inl p) (inr q) = absurd (omega (arith, q.1.0))
   takes_one w a b (inr p) (inl q) = absurd (omega (arith, p.1.0))
   takes_one w a b (inr p) (inr q) = one_arity rows (bare w - 256) Predicate a b p.1 q.1
-
-  pub taken_low : (w a : ℕ) → bare w < 256 → Takes rows w a → ⊥
-  taken_low w a h (inl p) = omega arith
-  taken_low w a h (inr p) = omega arith
-
-  pub taken_symbol : (w : ℕ) (r : Option ℕ) → (bare w ≡ 512 → ⊥) → 256 ≤ bare w → Arity rows (bare w - 256) Predicate r → Taken rows w r
-  taken_symbol w None n h f = go
-    where
-      go : (a : ℕ) → Takes rows w a → ⊥
-      go a (inl p) = n p.0
-      go a (inr p) = f a p.1
-  taken_symbol w (Some a) n h f = inr (h, f)
 
   -- ── The first literal ──
 
@@ -127,9 +115,6 @@ module _ (rows : List SymbolRow) where
           (head_word w (cond g.0 1024 0 + (256 + (bare w - 256))) ws (terms_words r.terms ++ a.mid) (g.1 ∙ ap (λ x. cond g.0 1024 0 + x) y) r.spelt) a.others
 
   -- ── At a place ──
-
-  pub spells_none : (most : ℕ) (ws : List ℕ) (i : ℕ) → length ws ≤ i → Decides true (Spells rows most (drop i ws))
-  spells_none most ws i h = (λ _. ([], drop_of_length-le ws h, (tt, omega arith)), λ _. refl)
 
   module _ (most : ℕ) (ws : List ℕ) (i : ℕ) (inside : i < length ws) where
     here : drop i ws ≡ get_or ws i 0 ∷ drop (i + 1) ws

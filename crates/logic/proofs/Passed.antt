@@ -1,9 +1,9 @@
 -- Passing over words by counting: steps, bounds and sums.
-use Rattle.std.proofs.Common.{◌≡◌, ℕ, zero, suc, ◌+◌, ◌-◌, ◌<◌, ◌≤◌, min, List, [], ◌∷◌, length, get_or, drop, sym, refl, ap, ◌∙◌, inl, inr, not-suc-le-zero, add_assoc, suc-add, zero-add, arith, length-drop, drop-drop}
+use Rattle.std.proofs.Common.{◌≡◌, ℕ, zero, suc, ◌+◌, ◌-◌, ◌<◌, ◌≤◌, min, List, [], ◌∷◌, length, get_or, drop, sym, refl, ap, ◌∙◌, inl, inr, not-suc-le-zero, add_assoc, suc-add, zero-add, arith, length-drop}
 use Rattle.std.specs.List.{between}
-use Rattle.std.proofs.lemmas.List.{drop_all, take_all, at_drop_more, drop_more}
+use Rattle.std.proofs.lemmas.List.{drop_all, take_all, at_drop_more}
 use Rattle.std.proofs.lemmas.Bool.{cases_lt}
-use Rattle.logic.specs.Walks.{word_arity, passed, past, heads}
+use Rattle.logic.specs.Walks.{word_arity, passed, past}
 
 module _ (arity : ℕ → ℕ) where
   pub passed_nil : (n : ℕ) → passed arity n [] ≡ 0
@@ -52,10 +52,6 @@ module _ (arity : ℕ → ℕ) where
       ∙ ap suc (passed_plus (word_arity arity w + n) m ws)
       ∙ sym (suc-add (passed arity (word_arity arity w + n) ws) (passed arity m (past arity (word_arity arity w + n) ws)))
 
-  pub past_plus : (n m : ℕ) (ws : List ℕ) → past arity (n + m) ws ≡ past arity m (past arity n ws)
-  past_plus n m ws =
-      ap (λ k. drop k ws) (passed_plus n m ws) ∙ sym (drop-drop (passed arity m (past arity n ws)) (passed arity n ws) ws)
-
   -- ── One step of a walk ──
 
   pub passed_more : (ws : List ℕ) (k n : ℕ) → k < length ws → 0 < n
@@ -84,50 +80,15 @@ module _ (arity : ℕ → ℕ) where
       let e : due ≡ 0 = omega arith in
       omega (arith, ap (λ k. passed arity k (drop place ws)) e, passed_zero (drop place ws))
 
-  pub walk_out : (ws : List ℕ) (place due total : ℕ) → length ws ≤ place → place + passed arity due (drop place ws) ≡ total → place ≡ total
-  walk_out ws place due total h g =
-      omega (arith, ap (passed arity due) (drop_all place ws h), passed_nil due)
-
   -- nothing is passed from a place behind the words on
   pub passed_behind : (ws : List ℕ) (place n : ℕ) → length ws ≤ place → passed arity n (drop place ws) ≡ 0
   passed_behind ws place n h = ap (passed arity n) (drop_all place ws h) ∙ passed_nil n
+
+  pub walk_out : (ws : List ℕ) (place due total : ℕ) → length ws ≤ place → place + passed arity due (drop place ws) ≡ total → place ≡ total
+  walk_out ws place due total h g = omega (arith, passed_behind ws place due h)
 
   -- the words from a place on, lent as the range up to their end
   pub passed_rest : (ws rest : List ℕ) (place n r : ℕ) → rest ≡ between place (length ws) ws → r ≡ passed arity n rest
       → place + r ≡ place + passed arity n (drop place ws)
   passed_rest ws rest place n r e f =
       ap (λ k. place + k) (f ∙ ap (passed arity n) (e ∙ take_all (length ws - place) (drop place ws) (omega (arith, length-drop place ws))))
-
-  -- ── Counting literals ──
-
-  pub heads_past : (n : ℕ) (ws : List ℕ) → heads arity n ws ≡ heads arity 0 (past arity n ws)
-  unfolding passed heads
-  heads_past n [] = refl
-  heads_past zero (w ∷ ws) = refl
-  heads_past (suc n) (w ∷ ws) = heads_past (word_arity arity w + n) ws
-
-  heads_cons : (w : ℕ) (ws : List ℕ) → heads arity 0 (w ∷ ws) ≡ suc (heads arity 0 (past arity (word_arity arity w) ws))
-  unfolding heads
-  heads_cons w ws = ap suc (heads_past (word_arity arity w) ws)
-
-  pub past_cons : (w : ℕ) (ws : List ℕ) → past arity 1 (w ∷ ws) ≡ past arity (word_arity arity w) ws
-  unfolding passed
-  past_cons w ws = let z : word_arity arity w + 0 ≡ word_arity arity w = omega arith in ap (λ k. past arity k ws) z
-
-  -- one literal passed is one literal fewer to come
-  heads_more : (ws : List ℕ) (place : ℕ) → place < length ws
-      → heads arity 0 (drop place ws) ≡ suc (heads arity 0 (drop (place + passed arity 1 (drop place ws)) ws))
-  heads_more ws place h =
-      let e : drop place ws ≡ get_or ws place 0 ∷ drop (place + 1) ws = drop_more ws place 0 h in
-      ap (heads arity 0) e
-      ∙ heads_cons (get_or ws place 0) (drop (place + 1) ws)
-      ∙ ap (λ xs. suc (heads arity 0 xs))
-      (sym (past_cons (get_or ws place 0) (drop (place + 1) ws)) ∙ ap (past arity 1) (sym e) ∙ drop-drop (passed arity 1 (drop place ws)) place ws)
-
-  pub heads_on : (ws : List ℕ) (place r : ℕ) → place < length ws → r ≡ place + passed arity 1 (drop place ws)
-      → heads arity 0 (drop place ws) ≡ suc (heads arity 0 (drop r ws))
-  heads_on ws place r h e = heads_more ws place h ∙ ap (λ p. suc (heads arity 0 (drop p ws))) (sym e)
-
-  pub heads_none : (ws : List ℕ) (place : ℕ) → length ws ≤ place → heads arity 0 (drop place ws) ≡ 0
-  unfolding heads
-  heads_none ws place h = ap (heads arity 0) (drop_all place ws h)

@@ -1,6 +1,6 @@
 -- Where terms and literals lie in the words of a clause.
-use Rattle.std.proofs.Common.{◌≡◌, ℕ, zero, suc, ◌+◌, ◌-◌, ◌<◌, ◌≤◌, Bool, true, false, cond, eqb, ltb, List, [], ◌∷◌, ◌++◌, length, get_or, take, drop, sym, refl, ap, ◌∙◌, subst, ap₂, append_assoc, append-nil, le_of_suc-le-suc, not-suc-le-zero, suc-add, zero-add, arith, length-append, take-append-drop}
-use lib.Seq.{take-append_seam, drop-append_seam, drop-append-add}
+use Rattle.std.proofs.Common.{◌≡◌, ℕ, zero, suc, ◌+◌, ◌-◌, ◌<◌, ◌≤◌, Bool, true, false, cond, eqb, ltb, List, [], ◌∷◌, ◌++◌, length, get_or, take, drop, sym, refl, ap, ◌∙◌, subst, ap₂, append_assoc, append-nil, suc-add, zero-add, arith, length-append, take-append-drop, drop-cons}
+use lib.Seq.{drop-append-add}
 use Rattle.std.proofs.lemmas.Bool.{lt-ltb, le-ltb, ne_eqb}
 use Rattle.std.proofs.lemmas.List.{drop_all}
 use Rattle.logic.specs.declared.row.SymbolRow.{SymbolRow}
@@ -9,8 +9,8 @@ use Rattle.logic.specs.Symbols.{Symbol}
 use Rattle.logic.specs.Syntax.{Term, Terms, Atom, Literal, Clause, var, app, []ₜ, ◌∷ₜ◌, predicate, equal}
 use Rattle.logic.specs.Words.{term_words, terms_words, atom_words, literal_words, clause_words}
 use Rattle.logic.specs.Lawful.{count, LawfulTerm, LawfulTerms, LawfulAtom}
-use Rattle.logic.specs.Walks.{arities, bare, head_arity, word_arity, passed, past, heads, begins}
-use Rattle.logic.proofs.Passed.{passed_zero, passed_suc, passed_nil, past_zero, heads_past}
+use Rattle.logic.specs.Walks.{arities, bare, head_arity, word_arity, passed, past, begins}
+use Rattle.logic.proofs.Passed.{passed_zero, passed_suc, passed_nil}
 use Rattle.logic.proofs.Spelt.{AllLawful}
 
 -- ── Literals of a clause ──
@@ -23,33 +23,10 @@ words_append (l ∷ c) d =
 pub apart : (c : Clause) (k : ℕ) → clause_words c ≡ clause_words (take k c) ++ clause_words (drop k c)
 apart c k = ap clause_words (sym (take-append-drop k c)) ∙ words_append (take k c) (drop k c)
 
-pub take-literals : (c : Clause) (k : ℕ) → clause_words (take k c) ≡ take (begins c k) (clause_words c)
-take-literals c k = sym (ap (take (begins c k)) (apart c k) ∙ take-append_seam (clause_words (take k c)) (clause_words (drop k c)))
-
-pub drop-literals : (c : Clause) (k : ℕ) → clause_words (drop k c) ≡ drop (begins c k) (clause_words c)
-drop-literals c k = sym (ap (drop (begins c k)) (apart c k) ∙ drop-append_seam (clause_words (take k c)) (clause_words (drop k c)))
-
--- a clause without a literal
-pub without_words : (c : Clause) (k : ℕ)
-    → clause_words (take k c ++ drop (suc k) c) ≡ take (begins c k) (clause_words c) ++ drop (begins c (suc k)) (clause_words c)
-without_words c k = words_append (take k c) (drop (suc k) c) ∙ ap₂ ◌++◌ (take-literals c k) (drop-literals c (suc k))
-
-pub drop_one : (c : Clause) (k : ℕ) (d : Literal) → k < length c → drop k c ≡ get_or c k d ∷ drop (suc k) c
-drop_one [] k d h = absurd (not-suc-le-zero h)
-drop_one (l ∷ c) zero d h = refl
-drop_one (l ∷ c) (suc k) d h = drop_one c k d (le_of_suc-le-suc h)
-
--- the words of a literal
-pub literal_at_words : (c : Clause) (k : ℕ) (d : Literal) → k < length c
-    → take (length (literal_words (get_or c k d))) (drop (begins c k) (clause_words c)) ≡ literal_words (get_or c k d)
-literal_at_words c k d h =
-    ap (take (length (literal_words (get_or c k d)))) (sym (drop-literals c k) ∙ ap clause_words (drop_one c k d h))
-    ∙ take-append_seam (literal_words (get_or c k d)) (clause_words (drop (suc k) c))
-
 -- the words before, of and behind a literal
 pub words_around : (c : Clause) (k : ℕ) (d : Literal) → k < length c
     → clause_words c ≡ clause_words (take k c) ++ (literal_words (get_or c k d) ++ clause_words (drop (suc k) c))
-words_around c k d h = apart c k ∙ ap (λ r. clause_words (take k c) ++ clause_words r) (drop_one c k d h)
+words_around c k d h = apart c k ∙ ap (λ r. clause_words (take k c) ++ clause_words r) (drop-cons c k d h)
 
 some_atom_word : (n : ℕ) (a : Atom) → 0 < length (atom_words n a)
 some_atom_word n (predicate p ts) = omega arith
@@ -66,7 +43,7 @@ pub begins_within : (c : Clause) (k : ℕ) (d : Literal) → k < length c → be
 begins_within c k d h =
     let l : Literal = get_or c k d in
     let y : length (clause_words (drop k c)) ≡ length (literal_words l) + length (clause_words (drop (suc k) c)) =
-    ap (λ r. length (clause_words r)) (drop_one c k d h) ∙ length-append (literal_words l) (clause_words (drop (suc k) c)) in
+    ap (λ r. length (clause_words r)) (drop-cons c k d h) ∙ length-append (literal_words l) (clause_words (drop (suc k) c)) in
     omega (arith, begins_sum c k, some_word l)
 
 pub begins_end : (c : Clause) (k : ℕ) → length c ≤ k → begins c k ≡ length (clause_words c)
@@ -77,7 +54,7 @@ begins_end c k h =
 pub begins_next : (c : Clause) (k : ℕ) (d : Literal) → k < length c → begins c (suc k) ≡ begins c k + length (literal_words (get_or c k d))
 begins_next c k d h =
     let y : length (clause_words (drop k c)) ≡ length (literal_words (get_or c k d)) + length (clause_words (drop (suc k) c)) =
-    ap (λ r. length (clause_words r)) (drop_one c k d h) ∙ length-append (literal_words (get_or c k d)) (clause_words (drop (suc k) c)) in
+    ap (λ r. length (clause_words r)) (drop-cons c k d h) ∙ length-append (literal_words (get_or c k d)) (clause_words (drop (suc k) c)) in
     omega (arith, begins_sum c k, begins_sum c (suc k))
 
 -- ── Passing over terms and literals ──
@@ -160,14 +137,6 @@ module _ (rows : List SymbolRow) where
   pub past_term : (t : Term) (n : ℕ) (ws : List ℕ) → LawfulTerm rows t → past (arities rows) (suc n) (term_words t ++ ws) ≡ past (arities rows) n ws
   past_term t n ws g = left (arities rows) (suc n) n (term_words t) ws (passed_term t n ws g)
 
-  pub past_terms : (ts : Terms) (n : ℕ) (ws : List ℕ) → LawfulTerms rows ts
-      → past (arities rows) (count ts + n) (terms_words ts ++ ws) ≡ past (arities rows) n ws
-  past_terms ts n ws g = left (arities rows) (count ts + n) n (terms_words ts) ws (passed_terms ts n ws g)
-
-  pub past_literal : (l : Literal) (n : ℕ) (ws : List ℕ) → LawfulAtom rows l.atom
-      → past (arities rows) (suc n) (literal_words l ++ ws) ≡ past (arities rows) n ws
-  past_literal l n ws g = left (arities rows) (suc n) n (literal_words l) ws (passed_literal l n ws g)
-
   -- all literals of a clause, with other words behind
   pub passed_literals : (c : Clause) (ws : List ℕ) → AllLawful rows c
       → passed (arities rows) (length c) (clause_words c ++ ws) ≡ length (clause_words c)
@@ -187,26 +156,3 @@ module _ (rows : List SymbolRow) where
       passed_literal l k (clause_words c) g.0
       ∙ ap (λ n. length (literal_words l) + n) (passed_clause c k g.1)
       ∙ sym (length-append (literal_words l) (clause_words (take k c)))
-
-  pub past_clause : (c : Clause) (k : ℕ) → AllLawful rows c → past (arities rows) k (clause_words c) ≡ clause_words (drop k c)
-  past_clause c k g = ap (λ n. drop n (clause_words c)) (passed_clause c k g) ∙ sym (drop-literals c k)
-
-  -- ── Counting literals ──
-
-  head_counts : (w : ℕ) (ws : List ℕ) → heads (arities rows) 0 (w ∷ ws) ≡ suc (heads (arities rows) 0 (past (arities rows) 1 (w ∷ ws)))
-  unfolding heads passed
-  head_counts w ws =
-      let z : word_arity (arities rows) w + 0 ≡ word_arity (arities rows) w = omega arith in
-      ap suc (heads_past (arities rows) (word_arity (arities rows) w) ws ∙ ap (λ k. heads (arities rows) 0 (past (arities rows) k ws)) (sym z))
-
-  pub heads_one : (ws : List ℕ) → 0 < length ws → heads (arities rows) 0 ws ≡ suc (heads (arities rows) 0 (past (arities rows) 1 ws))
-  heads_one [] h = absurd (not-suc-le-zero h)
-  heads_one (w ∷ ws) h = head_counts w ws
-
-  pub heads_clause : (c : Clause) → AllLawful rows c → heads (arities rows) 0 (clause_words c) ≡ length c
-  unfolding heads
-  heads_clause [] g = refl
-  heads_clause (l ∷ c) g =
-      heads_one (literal_words l ++ clause_words c) (omega (arith, length-append (literal_words l) (clause_words c), some_word l))
-      ∙ ap (λ ws. suc (heads (arities rows) 0 ws)) (past_literal l 0 (clause_words c) g.0 ∙ past_zero (arities rows) (clause_words c))
-      ∙ ap suc (heads_clause c g.1)

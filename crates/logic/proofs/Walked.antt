@@ -6,11 +6,11 @@ use Rattle.logic.specs.declared.words.Span.{Span}
 use Rattle.logic.specs.Syntax.{Terms, Clause}
 use Rattle.logic.specs.Words.{terms_words, literal_words, clause_words}
 use Rattle.logic.specs.Lawful.{count, LawfulTerms, Lawful}
-use Rattle.logic.specs.Walks.{arities, passed, heads, begins}
+use Rattle.logic.specs.Walks.{arities, passed, begins}
 use Rattle.logic.specs.Literals.{no_literal, span_of, Lies, LiteralAt}
 use Rattle.logic.proofs.Passed.{passed_zero, passed_more, passed_plus}
 use Rattle.logic.proofs.Spelt.{AllLawful, words_injective}
-use Rattle.logic.proofs.Spanned.{passed_terms, passed_literals, passed_clause, heads_clause, begins_within, begins_end, begins_next, words_around}
+use Rattle.logic.proofs.Spanned.{passed_terms, passed_literals, passed_clause, begins_within, begins_end, begins_next, words_around}
 
 module _ (rows : List SymbolRow) (ws : List ℕ) where
   -- ── Behind terms or literals ──
@@ -29,11 +29,6 @@ module _ (rows : List SymbolRow) (ws : List ℕ) where
   -- one term or literal from a place with a word goes on by a word at least
   pub goes_on : (place r : ℕ) → place < length ws → r ≡ place + passed (arities rows) 1 (drop place ws) → place < r
   goes_on place r h e = omega (arith, passed_more (arities rows) ws place 1 h (omega arith))
-
-  -- ── Literals counted ──
-
-  pub counted_literals : (r : ℕ) → r ≡ heads (arities rows) 0 ws → (c : Clause) → Lawful rows c → ws ≡ clause_words c → r ≡ length c
-  counted_literals r e c g f = e ∙ ap (heads (arities rows) 0) f ∙ heads_clause rows c g.0
 
   -- ── The span of a literal ──
 

@@ -1,9 +1,6 @@
 use Rattle.std.proofs.Common.{arith}
-use Rattle.logic.proofs.LiteralSteps.{spells_none, spells_full, spells_headless, spells_broken, spells_more}
+use Rattle.logic.proofs.LiteralSteps.{spells_full, spells_headless, spells_broken, spells_more}
 use Rattle.logic.proofs.lawful.+clause_from.Goals as goal
-
-pub returns-then-i-words : goal.returns-then-i-words
-returns-then-i-words t c = spells_none c.args.rows.now c.args.most c.args.words.now c.args.i (omega arith)
 
 pub returns-then-most-eq0 : goal.returns-then-most-eq0
 returns-then-most-eq0 t c = spells_full c.args.rows.now c.args.most c.args.words.now c.args.i (omega arith) (omega arith)

@@ -5,8 +5,6 @@ use Rattle.logic.specs.Symbols.{name_of}
 use Rattle.logic.proofs.Firsts.{at_first}
 use Rattle.logic.proofs.names.symbol_named.Goals as goal
 
-pub returns : goal.returns
-returns c = record {
-  is = c.find.ensures;
-  first = at_first (λ row. has_name row c.args.name.now) (λ row. name_of row ≡ c.args.name.now) (λ row. bytes_eq-Decides (name_of row) c.args.name.now) c.args.rows.now c.find.result c.find.ensures;
-}
+pub returns-clause-first : goal.returns-clause-first
+returns-clause-first c =
+    at_first (λ row. has_name row c.args.name.now) (λ row. name_of row ≡ c.args.name.now) (λ row. bytes_eq-Decides (name_of row) c.args.name.now) c.args.rows.now c.find.result c.find.ensures
