@@ -1,18 +1,6 @@
 -- Tests joined by and, or, not.
-use Rattle.std.proofs.Common.{◌≡◌, Bool, true, false, cond, not, ◌&&◌, ◌||◌, T, ◌⊎◌, sym, refl, subst, inl, inr}
+use Rattle.std.proofs.Common.{◌≡◌, Bool, true, false, cond, not, ◌||◌, T, sym, refl, subst}
 use mathlib.Core.Bool.{beq}
-
-pub and_left : (a b : Bool) → T (a && b) → T a
-and_left true b h = tt
-and_left false b h = h
-
-pub and_right : (a b : Bool) → T (a && b) → T b
-and_right true b h = h
-and_right false b h = absurd h
-
-pub both : (a b : Bool) → T a → T b → T (a && b)
-both true b h k = k
-both false b h k = h
 
 pub or_left : (a b : Bool) → T a → T (a || b)
 or_left true b h = tt
@@ -22,25 +10,9 @@ pub or_right : (a b : Bool) → T b → T (a || b)
 or_right true b h = tt
 or_right false b h = h
 
-pub or_cases : (a b : Bool) → T (a || b) → T a ⊎ T b
-or_cases true b h = inl tt
-or_cases false b h = inr h
-
-pub not_or_left : (a b : Bool) → T (not (a || b)) → T a → ⊥
-not_or_left true b h k = h
-not_or_left false b h k = k
-
-pub not_or_right : (a b : Bool) → T (not (a || b)) → T (not b)
-not_or_right true b h = absurd h
-not_or_right false b h = h
-
 pub neither : (a b : Bool) → (T a → ⊥) → T (not b) → T (not (a || b))
 neither true b h k = h tt
 neither false b h k = k
-
-pub or_assoc : (a b c : Bool) → ((a || b) || c) ≡ (a || (b || c))
-or_assoc true b c = refl
-or_assoc false b c = refl
 
 -- a || (b || c) with b in front
 pub or_front : (a b c : Bool) → (a || (b || c)) ≡ (b || (a || c))

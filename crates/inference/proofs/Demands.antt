@@ -1,12 +1,12 @@
 -- An answer is allowed exactly when every demand is met; and what the demand on a literal's number says.
 use Rattle.std.proofs.Common.{◌≡◌, ℕ, zero, suc, ◌-◌, true, false, ◌||◌, T, ltb, leb, List, [], ◌∷◌, length, sym, refl, subst, arith, le→leb, ltb→lt, lt→ltb, leb→le}
+use Rattle.std.proofs.Math.Facts.{and_yes, yes_and}
 use Rattle.logic.specs.Syntax.{Literal, Clause}
 use Rattle.logic.specs.Literals.{literal}
 use Rattle.logic.specs.Structures.{Structure, Valuation, clause_truth, literal_truth}
 use Rattle.inference.specs.Answers.{Answer, allowed, fault, Demand, ◌otherwise◌, answer}
 use Rattle.inference.specs.Literals.{has, without, with_literal}
 use Rattle.inference.specs.Conclusions.{HasLiteral}
-use Rattle.inference.proofs.Bools.{and_left, and_right, both}
 use Rattle.inference.proofs.Truth.{truth_apart, truth_set}
 
 -- each test of the demands succeeds
@@ -33,10 +33,10 @@ allowed_where_met ((false otherwise f) ∷ ds) m = absurd m.0
 
 pub has_it : (c : Clause) (a : ℕ) → T (has c a) → HasLiteral c a
 has_it c a h =
-    (ltb→lt 0 a (and_left (ltb 0 a) (leb a (length c)) h), leb→le a (length c) (and_right (ltb 0 a) (leb a (length c)) h))
+    (ltb→lt 0 a (and_yes (ltb 0 a) (leb a (length c)) h).0, leb→le a (length c) (and_yes (ltb 0 a) (leb a (length c)) h).1)
 
 pub it_has : (c : Clause) (a : ℕ) → HasLiteral c a → T (has c a)
-it_has c a h = both (ltb 0 a) (leb a (length c)) (lt→ltb 0 a h.0) (le→leb a (length c) h.1)
+it_has c a h = yes_and (ltb 0 a) (leb a (length c)) (lt→ltb 0 a h.0) (le→leb a (length c) h.1)
 
 module _ (S : Structure) (v : Valuation) where
   -- literal a of a clause, and the others
@@ -45,7 +45,7 @@ module _ (S : Structure) (v : Valuation) where
   literal_apart c zero h = absurd h
   literal_apart c (suc k) h =
       let e : suc k - 1 ≡ k = omega arith in
-      rw e (truth_apart S v c k _ (leb→le (suc k) (length c) (and_right (ltb 0 (suc k)) (leb (suc k) (length c)) h)))
+      rw e (truth_apart S v c k _ (leb→le (suc k) (length c) (and_yes (ltb 0 (suc k)) (leb (suc k) (length c)) h).1))
 
   -- and another literal in its place
   pub literal_put : (c : Clause) (a : ℕ) (m : Literal) → T (has c a)
@@ -53,4 +53,4 @@ module _ (S : Structure) (v : Valuation) where
   literal_put c zero m h = absurd h
   literal_put c (suc k) m h =
       let e : suc k - 1 ≡ k = omega arith in
-      rw e (truth_set S v c k m (leb→le (suc k) (length c) (and_right (ltb 0 (suc k)) (leb (suc k) (length c)) h)))
+      rw e (truth_set S v c k m (leb→le (suc k) (length c) (and_yes (ltb 0 (suc k)) (leb (suc k) (length c)) h).1))

@@ -1,5 +1,6 @@
 -- Instantiate allows exactly the premise with each bound variable replaced, no variable bound twice.
-use Rattle.std.proofs.Common.{◌≡◌, ℕ, Bool, true, false, cond, not, T, eqb, List, [], ◌∷◌, sym, refl, ap, ◌∙◌, subst, eqb→eq, T_not}
+use Rattle.std.proofs.Common.{◌≡◌, ℕ, Bool, true, false, cond, not, T, eqb, List, [], ◌∷◌, sym, refl, ap, ◌∙◌, eqb→eq, T_not}
+use Rattle.std.proofs.Math.Facts.{or_no, yes_eqb}
 use mathlib.Core.Path.{fun_ext}
 use lib.Dec.{not_T, eqb_refl}
 use Rattle.std.specs.List.{AllByRecursion}
@@ -9,12 +10,9 @@ use Rattle.inference.specs.Answers.{allowed}
 use Rattle.inference.specs.Instantiate.{Substitution, Binding, instance_of, binds, twice, substitution, instantiate, instantiate_demands}
 use Rattle.inference.specs.Conclusions.{Unbound, BoundOnce, Instance, Instantiates}
 use Rattle.inference.specs.Exactness.{InstantiateIsExact}
-use Rattle.inference.proofs.Bools.{not_or_left, not_or_right, neither}
+use Rattle.inference.proofs.Bools.{neither}
 use Rattle.inference.proofs.Same.{clause_is, clause_same}
 use Rattle.inference.proofs.Demands.{met, allowed_where_met}
-
-eq→eqb : (m n : ℕ) → m ≡ n → T (eqb m n)
-eq→eqb m n e = subst (λ (x : ℕ). T (eqb m x)) e (eqb_refl m)
 
 cond_no : (x : Bool) (s t : Term) → (T x → ⊥) → cond x s t ≡ t
 cond_no true s t h = absurd (h tt)
@@ -29,8 +27,8 @@ cond_yes false s t h = absurd h
 unbound : (bs : List Binding) (i : ℕ) → T (not (binds bs i)) → Unbound bs i
 unbound [] i h = tt
 unbound (b ∷ bs) i h = (
-  λ e. not_or_left (eqb b.variable i) (binds bs i) h (eq→eqb b.variable i e),
-  unbound bs i (not_or_right (eqb b.variable i) (binds bs i) h),
+  λ e. T_not (eqb b.variable i) (or_no (eqb b.variable i) (binds bs i) h).0 (yes_eqb e),
+  unbound bs i (or_no (eqb b.variable i) (binds bs i) h).1,
 )
 
 not_bound : (bs : List Binding) (i : ℕ) → Unbound bs i → T (not (binds bs i))
@@ -41,8 +39,8 @@ not_bound (b ∷ bs) i h =
 pub bound_once : (bs : List Binding) → T (not (twice bs)) → BoundOnce bs
 bound_once [] h = tt
 bound_once (b ∷ bs) h = (
-  unbound bs b.variable (not_T (binds bs b.variable) (not_or_left (binds bs b.variable) (twice bs) h)),
-  bound_once bs (not_or_right (binds bs b.variable) (twice bs) h),
+  unbound bs b.variable (not_T (binds bs b.variable) (T_not (binds bs b.variable) (or_no (binds bs b.variable) (twice bs) h).0)),
+  bound_once bs (or_no (binds bs b.variable) (twice bs) h).1,
 )
 
 pub not_twice : (bs : List Binding) → BoundOnce bs → T (not (twice bs))
@@ -86,7 +84,7 @@ only_one [] σ h i o = sym (o tt)
 only_one (b ∷ bs) σ h i o =
     at_first (eqb b.variable i) b.term (substitution bs i) (σ i)
     (λ q. sym h.0 ∙ ap σ (eqb→eq b.variable i q))
-    (λ n. only_one bs σ h.1 i (λ u. o (λ e. n (eq→eqb b.variable i e), u)))
+    (λ n. only_one bs σ h.1 i (λ u. o (λ e. n (yes_eqb e), u)))
 
 -- ── The instance ──
 

@@ -1,5 +1,6 @@
 -- Resolve allows exactly i without a, followed by j without b, where these literals are opposed.
 use Rattle.std.proofs.Common.{◌≡◌, ℕ, Bool, not, T, sym, subst}
+use Rattle.std.proofs.Math.Facts.{and_yes, yes_and}
 use mathlib.Core.Bool.{beq}
 use Rattle.logic.specs.Syntax.{Literal, Clause}
 use Rattle.logic.specs.Literals.{literal}
@@ -8,7 +9,7 @@ use Rattle.inference.specs.Answers.{allowed}
 use Rattle.inference.specs.Resolve.{opposed, resolve, resolve_demands}
 use Rattle.inference.specs.Conclusions.{Opposed, resolvent, Resolves}
 use Rattle.inference.specs.Exactness.{ResolveIsExact}
-use Rattle.inference.proofs.Bools.{and_left, and_right, both, other_sign, sign_other}
+use Rattle.inference.proofs.Bools.{other_sign, sign_other}
 use Rattle.inference.proofs.Same.{atom_is, atom_same, clause_is, clause_same}
 use Rattle.inference.proofs.Demands.{met, allowed_where_met, has_it, it_has}
 
@@ -17,13 +18,13 @@ opposed_is l m h =
     let x : Bool = same_atom l.atom m.atom in
     let y : Bool = not (beq l.negated m.negated) in
     record {
-      atom = atom_is l.atom m.atom (and_left x y h);
-      signs = other_sign l.negated m.negated (and_right x y h);
+      atom = atom_is l.atom m.atom (and_yes x y h).0;
+      signs = other_sign l.negated m.negated (and_yes x y h).1;
     }
 
 pub is_opposed : (l m : Literal) → Opposed l m → T (opposed l m)
 is_opposed l m h =
-    both (same_atom l.atom m.atom) (not (beq l.negated m.negated)) (atom_same l.atom m.atom h.atom)
+    yes_and (same_atom l.atom m.atom) (not (beq l.negated m.negated)) (atom_same l.atom m.atom h.atom)
     (subst (λ (x : Bool). T (not (beq x m.negated))) (sym h.signs) (sign_other m.negated))
 
 resolves : (i j : Clause) (a b : ℕ) (c : Clause) → resolve i j a b c ≡ allowed → Resolves i j a b c

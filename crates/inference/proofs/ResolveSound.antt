@@ -1,5 +1,6 @@
--- What resolve allows follows: under a valuation the two literals are not both true, so another literal is.
+-- What resolve allows follows: under a valuation the two literals are not yes_and true, so another literal is.
 use Rattle.std.proofs.Common.{◌≡◌, ℕ, not, T, [], ◌∷◌, ◌++◌, sym, subst}
+use Rattle.std.proofs.Math.Facts.{and_yes}
 use mathlib.Core.Bool.{beq}
 use Rattle.logic.specs.Syntax.{Literal, Clause}
 use Rattle.logic.specs.Literals.{literal}
@@ -9,15 +10,15 @@ use Rattle.inference.specs.Law.{Follows}
 use Rattle.inference.specs.Literals.{has, without}
 use Rattle.inference.specs.Resolve.{opposed, resolve_demands}
 use Rattle.inference.specs.Soundness.{ResolveIsSound}
-use Rattle.inference.proofs.Bools.{and_left, and_right, opposite, resolved}
+use Rattle.inference.proofs.Bools.{opposite, resolved}
 use Rattle.inference.proofs.Same.{atom_is, clause_is}
 use Rattle.inference.proofs.Truth.{truth_append}
 use Rattle.inference.proofs.Demands.{met, literal_apart}
 
 opposed_truth : (S : Structure) (v : Valuation) (l m : Literal) → T (opposed l m) → literal_truth S v l ≡ not (literal_truth S v m)
 opposed_truth S v l m h =
-    let e : l.atom ≡ m.atom = atom_is l.atom m.atom (and_left (same_atom l.atom m.atom) (not (beq l.negated m.negated)) h) in
-    let o : T (not (beq l.negated m.negated)) = and_right (same_atom l.atom m.atom) (not (beq l.negated m.negated)) h in
+    let e : l.atom ≡ m.atom = atom_is l.atom m.atom (and_yes (same_atom l.atom m.atom) (not (beq l.negated m.negated)) h).0 in
+    let o : T (not (beq l.negated m.negated)) = (and_yes (same_atom l.atom m.atom) (not (beq l.negated m.negated)) h).1 in
     rw e (opposite l.negated m.negated (atom_truth S v m.atom) o)
 
 pub resolvent_follows : (i j : Clause) (a b : ℕ) → T (has i a) → T (has j b) → T (opposed (literal i a) (literal j b))

@@ -1,8 +1,9 @@
 -- The truth of joined clauses, and of a clause by one of its literals and the others.
 use Rattle.std.proofs.Common.{◌≡◌, ℕ, zero, suc, ◌<◌, ◌||◌, [], ◌∷◌, ◌++◌, length, get_or, take, drop, set, sym, refl, ap, ◌∙◌, le_of_suc-le-suc, not-suc-le-zero}
+use Rattle.std.proofs.Math.Bool.{or_assoc}
 use Rattle.logic.specs.Syntax.{Literal, Clause}
 use Rattle.logic.specs.Structures.{Structure, Valuation, literal_truth, clause_truth}
-use Rattle.inference.proofs.Bools.{or_assoc, or_front}
+use Rattle.inference.proofs.Bools.{or_front}
 
 module _ (S : Structure) (v : Valuation) where
   pub truth_append : (c d : Clause) → clause_truth S v (c ++ d) ≡ (clause_truth S v c || clause_truth S v d)
