@@ -1,5 +1,6 @@
 -- One step of reading terms.
-use Rattle.std.proofs.Common.{◌≡◌, ℕ, ◌+◌, ◌-◌, ◌<◌, ◌≤◌, ◌⊎◌, List, [], ◌∷◌, ◌++◌, length, get_or, drop, Some, None, Option, sym, refl, ap, ◌∙◌, subst, ap₂, inl, inr, append_assoc, add-one, arith, length-append, drop_of_length-le, drop-cons}
+use Rattle.std.proofs.Common.{◌≡◌, ℕ, ◌+◌, ◌-◌, ◌<◌, ◌≤◌, ◌⊎◌, List, [], ◌∷◌, ◌++◌, length, get_or, drop, Some, None, Option, sym, refl, ap, ◌∙◌, subst, inl, inr, append_assoc, arith, length-append, drop_of_length-le}
+use Rattle.std.proofs.lemmas.List.{drop_more}
 use Rattle.logic.specs.declared.row.SymbolRow.{SymbolRow}
 use Rattle.logic.specs.declared.row.Kind.{Kind}
 use Rattle.logic.specs.declared.row.Kind.TheVariants.{Function}
@@ -117,7 +118,7 @@ module _ (rows : List SymbolRow) where
 
   module _ (d n : ℕ) (ws : List ℕ) (i w : ℕ) (inside : i < length ws) (is : w ≡ get_or ws i 0) (some_due : 0 < n) where
     here : drop i ws ≡ w ∷ drop (i + 1) ws
-    here = drop-cons ws i 0 inside ∙ ap₂ (λ x k. x ∷ drop k ws) (sym is) (sym (add-one i))
+    here = drop_more ws i 0 inside ∙ ap (λ x. x ∷ drop (i + 1) ws) (sym is)
 
     from_here : (rest : List ℕ) → Reads rows d n (drop i ws) rest
         → ((w < 64) × Reads rows d (n - 1) (drop (i + 1) ws) rest) ⊎ AfterSymbol d n w (drop (i + 1) ws) rest

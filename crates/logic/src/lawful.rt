@@ -63,19 +63,19 @@ fn clause_from(words: &[u32], rows: &[SymbolRow], i: usize, most: usize) -> bool
     requires { i ≤ length words.now }
     ensures { Decides result (Spells rows.now most (drop i words.now)) }
 {
-    if i >= words.len() {
+    let Some(&word) = words.get(i) else {
         return true;
-    }
+    };
     if most == 0 {
         return false;
     }
-    let Some(n) = arguments(rows, words[i]) else {
+    let Some(n) = arguments(rows, word) else {
         return false;
     };
-    match lawful_end(words, rows, i + 1, n, DEPTH) {
-        None => false,
-        Some(j) => clause_from(words, rows, j, most - 1),
-    }
+    let Some(j) = lawful_end(words, rows, i + 1, n, DEPTH) else {
+        return false;
+    };
+    clause_from(words, rows, j, most - 1)
 }
 
 /// Whether the words are those of some lawful clause.

@@ -49,7 +49,7 @@ impl Symbol {
     pub fn name(&self) -> &[u8]
         ensures { result.now ≡ take self.now.length self.now.name }
     {
-        &self.name[0..self.length as usize]
+        &self.name[..self.length as usize]
     }
 
     /// What the symbol heads.

@@ -1,17 +1,18 @@
 use Rattle.std.proofs.Common.{arith}
-use Rattle.logic.proofs.LiteralSteps.{spells_full, spells_headless, spells_broken, spells_more}
+use Rattle.logic.proofs.LiteralSteps.{spells_headless, spells_broken, spells_more}
 use Rattle.logic.proofs.lawful.+clause_from.Goals as goal
 
-pub returns-then-most-eq0 : goal.returns-then-most-eq0
-returns-then-most-eq0 t c = spells_full c.args.rows.now c.args.most c.args.words.now c.args.i (omega arith) (omega arith)
+pub returns-in_default-arguments : goal.returns-in_default-arguments
+returns-in_default-arguments t c =
+    let w = c.in-Some.ensures.lookup.3 in
+    spells_headless c.args.rows.now c.args.most c.args.words.now c.args.i c.in-Some.field-0.now w.0 (w.1 0) c.in_default-arguments.ensures
 
-pub returns-in_default : goal.returns-in_default
-returns-in_default t c = spells_headless c.args.rows.now c.args.most c.args.words.now c.args.i (omega arith) c.in_default.ensures
+pub returns-in_default-lawful_end : goal.returns-in_default-lawful_end
+returns-in_default-lawful_end t c =
+    let w = c.in-Some.ensures.lookup.3 in
+    spells_broken c.args.rows.now c.args.most c.args.words.now c.args.i c.in-Some.field-0.now w.0 (w.1 0) c.in-Some-arguments.n c.in-Some-arguments.ensures c.in_default-lawful_end.ensures
 
-pub returns-in-None : goal.returns-in-None
-returns-in-None t c =
-    spells_broken c.args.rows.now c.args.most c.args.words.now c.args.i (omega arith) c.in-Some.n c.in-Some.ensures c.in-None.ensures
-
-pub returns-in-Some-lawful_end : goal.returns-in-Some-lawful_end
-returns-in-Some-lawful_end t c =
-    spells_more c.args.rows.now c.args.most c.args.words.now c.args.i (omega arith) c.in-Some.n c.in-Some-lawful_end.j c.clause_from.result (omega arith) c.in-Some.ensures c.in-Some-lawful_end.ensures.2 c.clause_from.ensures
+pub returns : goal.returns
+returns t c =
+    let w = c.in-Some.ensures.lookup.3 in
+    spells_more c.args.rows.now c.args.most c.args.words.now c.args.i c.in-Some.field-0.now w.0 (w.1 0) c.in-Some-arguments.n c.in-Some-lawful_end.j c.clause_from.result (omega arith) c.in-Some-arguments.ensures c.in-Some-lawful_end.ensures.2 c.clause_from.ensures
