@@ -1,5 +1,5 @@
 //! Symbols whose name and arity are known to be lawful.
-ghost use Rattle.std.specs.Prelude.{◌≡◌, ◌<◌, ◌≤◌, take, MatchOption};
+ghost use Rattle.std.specs.Prelude.{◌≡◌, ◌≤◌, take, MatchOption};
 ghost use Rattle.logic.specs.Limits as limits;
 ghost use Rattle.logic.specs.Names.{name_byte, Recordable};
 

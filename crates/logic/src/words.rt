@@ -1,5 +1,5 @@
 //! Walking over words by counting how many terms are still due.
-ghost use Rattle.std.specs.Prelude.{◌≡◌, ℕ, ◌+◌, ◌<◌, ◌≤◌, List, ◌++◌, length, drop, IfSome, Decides};
+ghost use Rattle.std.specs.Prelude.{◌≡◌, ℕ, ◌+◌, ◌≤◌, List, ◌++◌, length, drop, Decides};
 ghost use Rattle.std.specs.Str.{bytes_eq};
 ghost use Rattle.logic.specs.declared.row.SymbolRow.{SymbolRow as Row};
 ghost use Rattle.logic.specs.Syntax.{Terms, Clause};
