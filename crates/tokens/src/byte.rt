@@ -2,8 +2,10 @@
 ghost use Rattle.std.specs.Prelude.{◌≡◌};
 ghost use Rattle.tokens.specs.Bytes.{within, past as past_of};
 
+use logic::is_name_byte;
+
 /// A class of bytes.
-#[derive(Clone, Copy)]
+#[derive(Clone, Copy, PartialEq, Eq)]
 pub enum Class {
     /// The space, the only blank.
     Space,
@@ -13,14 +15,16 @@ pub enum Class {
     Run,
 }
 
-/// Whether the byte is of the class.
-pub fn is(class: Class, byte: u8) -> bool
-    ensures { result ≡ within class byte }
-{
-    match class {
-        Class::Space => byte == b' ',
-        Class::Digit => matches!(byte, b'0'..=b'9'),
-        Class::Run => matches!(byte, b'a'..=b'z' | b'0'..=b'9' | b'_'),
+impl Class {
+    /// Whether the byte is of the class.
+    pub fn has(self, byte: u8) -> bool
+        ensures { result ≡ within self byte }
+    {
+        match self {
+            Class::Space => byte == b' ',
+            Class::Digit => byte.is_ascii_digit(),
+            Class::Run => is_name_byte(byte),
+        }
     }
 }
 
@@ -28,9 +32,9 @@ pub fn is(class: Class, byte: u8) -> bool
 pub fn past(line: &[u8], from: usize, class: Class) -> usize
     ensures { result ≡ past_of class line.now from }
 {
-    let mut at = from;
-    while at < line.len() && is(class, line[at]) {
-        at += 1;
-    }
-    at
+    from + line
+        .iter()
+        .skip(from)
+        .take_while(|byte| class.has(**byte))
+        .count()
 }

@@ -3,7 +3,7 @@ ghost use Rattle.std.specs.Prelude.{◌≡◌};
 ghost use Rattle.tokens.specs.Faults.{fault_number, fault_place};
 
 /// A refusal, with its place in the line; that of a count lies at 0.
-#[derive(Clone, Copy)]
+#[derive(Clone, Copy, PartialEq, Eq, Debug)]
 pub enum Fault {
     /// A byte that no token has.
     NoToken(usize),
@@ -67,22 +67,22 @@ impl Fault {
         ensures { result ≡ fault_place self }
     {
         match self {
-            Fault::NoToken(place) => place,
-            Fault::Early(place) => place,
-            Fault::Due(place) => place,
-            Fault::Long(place) => place,
-            Fault::Form(place) => place,
-            Fault::Deep(place) => place,
-            Fault::ManyLiterals(place) => place,
-            Fault::ManyNumbers(place) => place,
-            Fault::ManyBindings(place) => place,
-            Fault::ManyWords(place) => place,
-            Fault::OtherKind(place) => place,
-            Fault::OtherArity(place) => place,
-            Fault::Unknown(place) => place,
-            Fault::ManyArguments(place) => place,
-            Fault::ManySymbols(place) => place,
-            Fault::NoRule(place) => place,
+            Fault::NoToken(place)
+            | Fault::Early(place)
+            | Fault::Due(place)
+            | Fault::Long(place)
+            | Fault::Form(place)
+            | Fault::Deep(place)
+            | Fault::ManyLiterals(place)
+            | Fault::ManyNumbers(place)
+            | Fault::ManyBindings(place)
+            | Fault::ManyWords(place)
+            | Fault::OtherKind(place)
+            | Fault::OtherArity(place)
+            | Fault::Unknown(place)
+            | Fault::ManyArguments(place)
+            | Fault::ManySymbols(place)
+            | Fault::NoRule(place) => place,
             Fault::Count => 0,
         }
     }

@@ -1,15 +1,13 @@
 //! The forms of numbers, variables and names.
-ghost use Rattle.std.specs.Prelude.{◌≡◌, ◌-◌, ◌≤◌, ◌&&◌, length, drop, if◌then◌else◌, Some, None, nat_le, slice_index};
-ghost use Rattle.std.specs.List.{prefix_len};
-ghost use Rattle.std.specs.Str.{bytes_eq};
+ghost use Rattle.std.specs.Prelude.{◌≡◌, ◌≤◌, ◌&&◌, length, if◌then◌else◌, Some, None, nat_le, slice_index};
 ghost use Rattle.logic.specs.Limits.{name_bytes};
-ghost use Rattle.logic.specs.Names.{digit, letter};
+ghost use Rattle.logic.specs.Names.{letter};
 ghost use Rattle.tokens.specs.Tokens.{tok};
 ghost use Rattle.tokens.specs.Forms.{decimal as decimalOf, digits as digitsOf, value, reserved as reservedOf, in_form, name_in_form, number_form, variable_form, keyword_form, symbol_form, behind};
 
-use crate::byte::{Class, is};
+use crate::byte::Class;
 use crate::fault::Fault;
-use crate::token::Token;
+use crate::token::{Lexeme, Token};
 use logic::{NAME_BYTES, VARIABLES};
 
 /// The largest number that a line may have.
@@ -21,11 +19,11 @@ fn digits(run: &[u8]) -> Option<u64>
     ensures { result ≡ (if digitsOf run.now then Some (value run.now) else None) }
 {
     let mut n: u64 = 0;
-    for b in run {
-        if !is(Class::Digit, *b) {
+    for byte in run {
+        if !Class::Digit.has(*byte) {
             return None;
         }
-        n = n * 10 + (*b - b'0') as u64;
+        n = n * 10 + u64::from(*byte - b'0');
     }
     if run.is_empty() { None } else { Some(n) }
 }
@@ -35,24 +33,12 @@ fn decimal(run: &[u8], most: u32) -> Option<u32>
     requires { length run.now ≤ name_bytes }
     ensures { result ≡ (if decimalOf run.now && nat_le (value run.now) most then Some (value run.now) else None) }
 {
-    match digits(run) {
-        Some(n) => {
-            if (run.len() == 1 || run[0] >= b'1') && n <= most as u64 {
-                Some(n as u32)
-            } else {
-                None
-            }
-        }
-        None => None,
+    let n = digits(run)?;
+    if (run.len() == 1 || run[0] >= b'1') && n <= u64::from(most) {
+        Some(n as u32)
+    } else {
+        None
     }
-}
-
-/// All but the first byte.
-fn tail(run: &[u8]) -> &[u8]
-    ensures bytes { result.now ≡ drop 1 run.now }
-    ensures len { length result.now ≡ length run.now - 1 }
-{
-    if run.is_empty() { run } else { &run[1..] }
 }
 
 /// The number of these digits of a run, in form.
@@ -63,55 +49,32 @@ fn in_form(run: &[u8], digits: &[u8], most: u32, place: usize) -> Result<u32, Fa
     if run.len() > NAME_BYTES {
         return Err(Fault::Long(place));
     }
-    match decimal(digits, most) {
-        Some(n) => Ok(n),
-        None => Err(Fault::Form(place)),
-    }
-}
-
-/// The number that a token is, where a number is due.
-pub fn number(token: Token<'_>, place: usize) -> Result<u32, Fault>
-    ensures { result ≡ number_form (tok token.entry) place }
-{
-    match token {
-        Token::Number(run) => in_form(run, run, LARGEST_NUMBER, place),
-        _ => Err(Fault::Due(place)),
-    }
+    decimal(digits, most).ok_or(Fault::Form(place))
 }
 
 /// The number of a variable's run.
 pub fn variable(run: &[u8], place: usize) -> Result<u32, Fault>
     ensures { result ≡ variable_form run.now place }
 {
-    in_form(run, tail(run), VARIABLES - 1, place)
-}
-
-/// Whether two runs have the same bytes.
-pub fn same(run: &[u8], other: &[u8]) -> bool
-    ensures { result ≡ bytes_eq run.now other.now }
-{
-    run == other
+    let digits = match run {
+        [_, digits @ ..] => digits,
+        [] => run,
+    };
+    in_form(run, digits, VARIABLES - 1, place)
 }
 
 /// Whether the name is never a symbol.
 fn reserved(run: &[u8]) -> bool
     ensures { result ≡ reservedOf run.now }
 {
-    same(run, b"or") || same(run, b"not")
-}
-
-/// The first byte, or 0 where there is none.
-fn first(run: &[u8]) -> u8
-    ensures { result ≡ slice_index run.now 0 }
-{
-    if run.is_empty() { 0 } else { run[0] }
+    matches!(run, b"or" | b"not")
 }
 
 /// Whether a run starts with a letter.
 fn lettered(run: &[u8]) -> bool
     ensures { result ≡ letter (slice_index run.now 0) }
 {
-    matches!(first(run), b'a'..=b'z')
+    matches!(run.first(), Some(b'a'..=b'z'))
 }
 
 /// A name of at most 16 bytes that starts with a letter.
@@ -128,27 +91,34 @@ fn name_in_form(run: &[u8], place: usize) -> Result<&[u8], Fault>
     }
 }
 
-/// The name that a token is, where the keyword of an inference rule is due.
-pub fn keyword(token: Token<'_>, place: usize) -> Result<&[u8], Fault>
-    ensures { behind result ≡ keyword_form (tok token.entry) place }
-{
-    match token {
-        Token::Name(run) => name_in_form(run, place),
-        _ => Err(Fault::Due(place)),
-    }
-}
-
-/// The name that a token is, where a symbol is due.
-pub fn symbol_name(token: Token<'_>, place: usize) -> Result<&[u8], Fault>
-    ensures { behind result ≡ symbol_form (tok token.entry) place }
-{
-    match token {
-        Token::Name(run) => {
-            if reserved(run) {
-                return Err(Fault::Due(place));
-            }
-            name_in_form(run, place)
+impl<'a> Lexeme<'a> {
+    /// The number that the token is, where a number is due.
+    pub fn number(self) -> Result<u32, Fault>
+        ensures { result ≡ number_form (tok self.entry.token) self.entry.place }
+    {
+        match self.token {
+            Token::Number(run) => in_form(run, run, LARGEST_NUMBER, self.place),
+            _ => Err(Fault::Due(self.place)),
         }
-        _ => Err(Fault::Due(place)),
+    }
+
+    /// The name that the token is, where the keyword of an inference rule is due.
+    pub fn keyword(self) -> Result<&'a [u8], Fault>
+        ensures { behind result ≡ keyword_form (tok self.entry.token) self.entry.place }
+    {
+        match self.token {
+            Token::Name(run) => name_in_form(run, self.place),
+            _ => Err(Fault::Due(self.place)),
+        }
+    }
+
+    /// The name that the token is, where a symbol is due.
+    pub fn symbol_name(self) -> Result<&'a [u8], Fault>
+        ensures { behind result ≡ symbol_form (tok self.entry.token) self.entry.place }
+    {
+        match self.token {
+            Token::Name(run) if !reserved(run) => name_in_form(run, self.place),
+            _ => Err(Fault::Due(self.place)),
+        }
     }
 }

@@ -8,5 +8,5 @@ mod token;
 
 pub use byte::Class;
 pub use fault::Fault;
-pub use form::{LARGEST_NUMBER, keyword, number, same, symbol_name, variable};
+pub use form::{LARGEST_NUMBER, variable};
 pub use token::{Lexeme, Token, next};

@@ -2,11 +2,11 @@
 ghost use Rattle.std.specs.Prelude.{◌≡◌, ◌<◌, ◌≤◌, length, IfOk};
 ghost use Rattle.tokens.specs.Tokens.{tok, class as class_of, seen, lex};
 
-use crate::byte::{Class, is, past};
+use crate::byte::{Class, past};
 use crate::fault::Fault;
 
 /// A token; a run borrows the line. A run's class says what it counts as, not that its form is right.
-#[derive(Clone, Copy)]
+#[derive(Clone, Copy, PartialEq, Eq)]
 pub enum Token<'a> {
     Open,
     Close,
@@ -29,7 +29,7 @@ fn class(run: &[u8]) -> Token<'_>
     requires { 0 < length run.now }
     ensures { tok result ≡ class_of run.now }
 {
-    if is(Class::Digit, run[0]) {
+    if Class::Digit.has(run[0]) {
         Token::Number(run)
     } else if run[0] == b'v' && run.len() > 1 && past(run, 1, Class::Digit) == run.len() {
         Token::Variable(run)
@@ -52,7 +52,7 @@ pub fn next(line: &[u8], from: usize) -> Result<Lexeme<'_>, Fault>
         b'(' => Token::Open,
         b')' => Token::Close,
         b'=' => Token::Equals,
-        b if is(Class::Run, b) => {
+        byte if Class::Run.has(byte) => {
             end = past(line, place, Class::Run);
             class(&line[place..end])
         }

@@ -1,12 +1,18 @@
-use Rattle.std.proofs.Common.{sym, ◌∙◌}
-use Rattle.tokens.proofs.Pasts.{past_yes, past_no, past_all}
+use Rattle.std.proofs.Common.{drop, arith, rules, tests}
+use Rattle.std.proofs.lemmas.Iterator.{YieldsList-from_slice}
+use Rattle.std.proofs.lemmas.Iterator.Adapters.{YieldsList-from_skip}
+use Rattle.std.proofs.lemmas.Iterator.Consumers.{YieldsList-at, count_from_yields_List}
+use Rattle.std.proofs.lemmas.Iterator.Search.{YieldsList-from_take_while}
+use Rattle.std.proofs.lemmas.List.Folds.{length-prefix_len}
+use Rattle.tokens.specs.Bytes.{within}
 use Rattle.tokens.proofs.byte.past.Goals as goal
 
-pub loop-at-preserved : goal.loop-at-preserved
-loop-at-preserved c = past_yes _ _ _ c.loop-at-test.true (sym c.if-is.ensures) ∙ c.loop-at.invariant
-
-pub returns-else-is : goal.returns-else-is
-returns-else-is c = sym (past_no _ _ _ c.loop-at-test.true (sym c.if-is.ensures)) ∙ c.loop-at.invariant
-
-pub returns-after-loop-at : goal.returns-after-loop-at
-returns-after-loop-at c = sym (past_all _ _ _ c.loop-at-test.false) ∙ c.loop-at.invariant
+pub returns : goal.returns
+returns c =
+    let counted =
+    count_from_yields_List c.take_while.result c.count.result c.count.ensures.ran
+    (YieldsList-from_take_while _ (within c.args.class)
+    (YieldsList-at c.take_while.ensures.source
+    (YieldsList-from_skip c.args.from (YieldsList-at c.skip.ensures.source (YieldsList-from_slice c.args.line.now cc)) c.skip.ensures.count))
+    c.take_while.ensures.closure c.take_while.ensures.done (λ x b q k. search (rules, tests))) in
+    omega (arith, counted, length-prefix_len (within c.args.class) (drop c.args.from c.args.line.now))

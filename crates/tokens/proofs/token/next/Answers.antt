@@ -7,12 +7,12 @@ use Rattle.tokens.proofs.token.next.Goals.{in-40, in-41, in-61, in_default}
 
 pub slice_bounds-class-end : goal.slice_bounds-class-end
 slice_bounds-class-end c =
-    let on = past_on Run _ _ c.if-place-line.false (sym c.if-is.ensures) in
+    let on = past_on Run _ _ c.if-place-line.false (sym c.if-has.ensures) in
     let inside = past_within Run c.args.line.now c.past-place.result (omega arith) in
     search rules
 
 pub class-token-requires : goal.class-token-requires
-class-token-requires c = simp c.past-end.ensures (part_some Run _ _ c.if-place-line.false (sym c.if-is.ensures))
+class-token-requires c = simp c.past-end.ensures (part_some Run _ _ c.if-place-line.false (sym c.if-has.ensures))
 
 pub returns : goal.returns
 unfolding lex
@@ -25,7 +25,7 @@ returns c =
         | in-40 w ↦ omega (arith, w.end-is)
         | in-41 w ↦ omega (arith, w.end-is)
         | in-61 w ↦ omega (arith, w.end-is)
-        | in_default w ↦ omega (arith, w.end-is, w.past-end.ensures, past_on Run _ _ inside (sym w.if-is.ensures), past_within Run c.args.line.now c.past-place.result (omega arith))
+        | in_default w ↦ omega (arith, w.end-is, w.past-end.ensures, past_on Run _ _ inside (sym w.if-has.ensures), past_within Run c.args.line.now c.past-place.result (omega arith))
       ];
     }
 
