@@ -3,7 +3,7 @@ use Rattle.std.proofs.Common.{◌≡◌, ℕ, ◌≤◌, List, length, take, Ok,
 use Rattle.logic.specs.Limits as language
 use Rattle.logic.specs.declared.row.SymbolRow.{SymbolRow}
 use Rattle.tokens.specs.declared.fault.Fault.{Fault}
-use Rattle.reading.specs.declared.cursor.Purpose.TheVariants.{Rule}
+use Rattle.reading.specs.declared.purpose.Purpose.TheVariants.{Rule}
 use Rattle.reading.specs.States.{lift, from, count_checked}
 use Rattle.reading.specs.Clauses.{opening, closing, wording, clause_from}
 use Rattle.reading.specs.Fixed.{Fixed}

@@ -2,7 +2,7 @@
 use Rattle.std.proofs.Common.{◌≡◌, ℕ, ◌<◌, List, [], Ok, Err, codes, Result, sym, refl, subst}
 use Rattle.logic.specs.declared.row.SymbolRow.{SymbolRow}
 use Rattle.tokens.specs.declared.fault.Fault.{Fault}
-use Rattle.reading.specs.declared.cursor.Purpose.TheVariants.{Step}
+use Rattle.reading.specs.declared.purpose.Purpose.TheVariants.{Step}
 use Rattle.reading.specs.States.{lift, from}
 use Rattle.reading.specs.Entering.{settle}
 use Rattle.reading.specs.Clauses.{opening, closing, wording, clause_from}

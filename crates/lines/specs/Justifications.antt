@@ -9,7 +9,8 @@ use Rattle.reading.specs.States.{Halt, halt, ◌>>=◌, ◌then◌, lift}
 use Rattle.reading.specs.Clauses.{opening, closing}
 use Rattle.reading.specs.Bindings.{Bound, Bounds, InOrder, held, bindings_at}
 use Rattle.lines.specs.declared.shape.Shape.{Shape}
-use Rattle.lines.specs.declared.justification.Few.{Few}
+use Rattle.reading.specs.declared.cursor.Cursor.{Cursor}
+use Rattle.reading.specs.declared.reader.Reader.{Reader}
 use Rattle.lines.specs.declared.justification.Keyword.{Keyword}
 use Rattle.lines.specs.declared.justification.Cited.{Cited}
 use Rattle.lines.specs.declared.justification.Justification.{Justification}
@@ -20,6 +21,16 @@ use Rattle.lines.specs.Positions.{position_part}
 -- the shapes that keywords stand for
 abbrev pub Table : Type 0
 Table = List ℕ → Option Shape
+
+-- at most two numbers, and the place behind them
+pub record Few : Type 0 where
+  pub numbers : List ℕ
+  pub end : ℕ
+
+-- what was read of them
+abbrev pub few_read : Result (List ℕ) Fault → Cursor → Result Few Fault
+few_read (Ok ns) c = Ok (record { numbers = ns; end = c.pos })
+few_read (Err f) c = Err f
 
 -- none, one or two numbers in a row; 0 stands for a number that is not asked for
 abbrev pub few_at : List ℕ → ℕ → ℕ → Result Few Fault
@@ -35,12 +46,12 @@ pub record Named : Type 0 where
   pub shape : Shape
   pub end : ℕ
 
-abbrev pub named : Keyword → Named
-named k = record { run = k.run.now; shape = k.shape; end = k.end }
+abbrev pub named : Keyword → ℕ → Named
+named k end = record { run = k.run.now; shape = k.shape; end = end }
 
-abbrev pub after_keyword : Result Keyword Fault → Result Named Fault
-after_keyword (Ok k) = Ok (named k)
-after_keyword (Err f) = Err f
+abbrev pub after_keyword : Result Keyword Fault → Cursor → Result Named Fault
+after_keyword (Ok k) c = Ok (named k c.pos)
+after_keyword (Err f) c = Err f
 
 abbrev pub shaped : List ℕ → ℕ → ℕ → Option Shape → Result Named Fault
 shaped run at end None = Err (NoRule at)
@@ -59,16 +70,28 @@ pub record Citation : Type 0 where
   pub premises : Few
   pub literals : Few
 
-abbrev pub after_cited : Result Cited Fault → Result Citation Fault
-after_cited (Ok c) = Ok (record { keyword = named c.keyword; premises = c.premises; literals = c.literals })
-after_cited (Err f) = Err f
-
 unfoldable pub cited_at : List ℕ → Table → ℕ → Result Citation Fault
 cited_at bs table p =
     keyword_at bs table p then λ k.
     few_at bs k.shape.premises k.end then λ i.
     few_at bs k.shape.literals i.end then λ a.
     Ok (record { keyword = k; premises = i; literals = a })
+
+-- what stands in a citation, and the place behind it
+pub record Cites : Type 0 where
+  pub run : List ℕ
+  pub shape : Shape
+  pub premises : List ℕ
+  pub literals : List ℕ
+  pub end : ℕ
+
+abbrev pub numbers_and_end : Citation → Result Cites Fault
+numbers_and_end c = Ok (record { run = c.keyword.run; shape = c.keyword.shape; premises = c.premises.numbers; literals = c.literals.numbers; end = c.literals.end })
+
+-- what was read of it
+abbrev pub after_cited : Result Cited Fault → Cursor → Result Cites Fault
+after_cited (Ok c) d = Ok (record { run = c.keyword.run.now; shape = c.keyword.shape; premises = c.premises; literals = c.literals; end = d.pos })
+after_cited (Err f) d = Err f
 
 -- bindings, where they are due at all
 abbrev pub bindings_part : List ℕ → Bool → ℕ → ℕ → List SymbolRow → Result Bounds Halt
@@ -92,18 +115,18 @@ pub record Justified : Type 0 where
 abbrev pub Usable : Justification → Type 0
 Usable j = (j.steps ≤ limits.position_numbers) × (InOrder j.bindings)
 
-abbrev pub after_justification : Result Keyword Fault → Justification → ℕ → List SymbolRow → Result Justified Halt
-after_justification (Ok k) j n rows =
+abbrev pub after_justification : Result Keyword Fault → Justification → Reader → Result Justified Halt
+after_justification (Ok k) j r =
     Ok (record {
-      keyword = named k;
+      keyword = named k r.at.pos;
       premises = asked k.shape.premises j.premises;
       literals = asked k.shape.literals j.literals;
       position = take j.steps j.position;
       bound = held j.bindings;
-      symbols = n;
-      rows = rows;
+      symbols = r.symbols;
+      rows = r.rows.now;
     })
-after_justification (Err f) j n rows = Err (halt f n rows)
+after_justification (Err f) j r = Err (halt f r.symbols r.rows.now)
 
 -- the justification that is due
 unfoldable pub justification_at : List ℕ → Table → ℕ → ℕ → List SymbolRow → Result Justified Halt

@@ -5,7 +5,21 @@ use Rattle.tokens.specs.declared.fault.Fault.TheVariants.{NoToken, Early, Due, L
 use Rattle.tokens.specs.Tokens.{Lexed, lex}
 use Rattle.tokens.specs.Forms.{number_form}
 use Rattle.reading.specs.States.{◌then◌}
-use Rattle.lines.specs.declared.number.Numbered.{Numbered}
+use Rattle.reading.specs.declared.cursor.Cursor.{Cursor}
+
+-- a number, its place and the place behind it
+pub record Numbered : Type 0 where
+  pub number : ℕ
+  pub place : ℕ
+  pub end : ℕ
+
+abbrev pub number_and_end : Numbered → Result (ℕ × ℕ) Fault
+number_and_end m = Ok (m.number, m.end)
+
+-- a number that was read, and the place behind it
+abbrev pub number_read : Result ℕ Fault → Cursor → Result (ℕ × ℕ) Fault
+number_read (Ok n) c = Ok (n, c.pos)
+number_read (Err f) c = Err f
 
 -- the number that is due, and the place behind it
 abbrev pub number_at : List ℕ → ℕ → Result Numbered Fault

@@ -1,14 +1,13 @@
 -- Positions: lists of argument numbers.
-use Rattle.std.specs.Prelude.{ℕ, zero, suc, ◌+◌, Bool, cond, List, [], ◌∷◌, ◌++◌, take, Ok, Err, Result, ◌==◌}
+use Rattle.std.specs.Prelude.{◌≡◌, ℕ, ◌≤◌, Some, None, Option, zero, suc, ◌+◌, Bool, cond, List, [], ◌∷◌, ◌++◌, take, Ok, Err, Result, ◌==◌}
 use Rattle.tokens.specs.declared.fault.Fault.{Fault}
 use Rattle.tokens.specs.declared.fault.Fault.TheVariants.{ManyNumbers}
 use Rattle.tokens.specs.Tokens.{Tok, opens, closes, equals, number, variable, word, lex}
 use Rattle.tokens.specs.Forms.{number_form}
 use Rattle.reading.specs.States.{◌then◌}
 use Rattle.reading.specs.Clauses.{opening}
-use Rattle.lines.specs.declared.position.Turn.{Turn}
-use Rattle.lines.specs.declared.position.Turn.TheVariants.{Closed, Given}
-use Rattle.lines.specs.declared.position.Steps.{Steps}
+use Rattle.reading.specs.declared.cursor.Cursor.{Cursor}
+use Rattle.lines.specs.Turns.{Turn, Closed, Given}
 use Rattle.lines.specs.Limits as limits
 
 -- a number in form, unless there are as many already as there may be
@@ -27,15 +26,20 @@ turned none at end (word r) = given_at none at end (word r)
 abbrev pub position_mark : List ℕ → Bool → ℕ → Result Turn Fault
 position_mark bs none p = lex bs p then λ l. turned none l.place l.end l.tok
 
--- the position ends there
-abbrev pub IsClosed : Turn → Type 0
-IsClosed (Closed e) = Unit {0}
-IsClosed (Given n e) = ⊥
+-- a number or the closing bracket that was read, with the place behind it
+abbrev pub turned_to : Result (Option ℕ) Fault → Cursor → Result Turn Fault
+turned_to (Ok None) c = Ok (Closed c.pos)
+turned_to (Ok (Some n)) c = Ok (Given n c.pos)
+turned_to (Err f) c = Err f
 
 -- the numbers that were read, and the place behind them
-abbrev pub after_position : Result Steps Fault → List ℕ → Result (List ℕ × ℕ) Fault
-after_position (Ok s) numbers = Ok (take s.count numbers, s.end)
-after_position (Err f) numbers = Err f
+abbrev pub position_read : Result ℕ Fault → List ℕ → Cursor → Result (List ℕ × ℕ) Fault
+position_read (Ok n) numbers c = Ok (take n numbers, c.pos)
+position_read (Err f) numbers c = Err f
+
+-- reading has gone on in the same line, never back
+abbrev pub StaysInLine : Cursor → Cursor → Type 0
+StaysInLine c d = (d.line ≡ c.line) × (c.pos ≤ d.pos)
 
 -- what a turn leads to: `rest` reads the numbers after this one; `done` are read already
 abbrev pub position_turn : (List ℕ → ℕ → Result (List ℕ × ℕ) Fault) → List ℕ → Turn → Result (List ℕ × ℕ) Fault

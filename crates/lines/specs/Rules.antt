@@ -2,7 +2,7 @@
 use Rattle.std.specs.Prelude.{ℕ, ◌-◌, List, Ok, Err, codes, Result}
 use Rattle.logic.specs.declared.row.SymbolRow.{SymbolRow}
 use Rattle.tokens.specs.declared.fault.Fault.{Fault}
-use Rattle.reading.specs.declared.cursor.Purpose.TheVariants.{Rule}
+use Rattle.reading.specs.declared.purpose.Purpose.TheVariants.{Rule}
 use Rattle.reading.specs.States.{Halt, halt, ◌>>=◌, lift, from, count_checked}
 use Rattle.reading.specs.Clauses.{opening, closing, wording, clause_from}
 use Rattle.lines.specs.declared.rule.RuleLine.{RuleLine}

@@ -2,7 +2,7 @@
 use Rattle.std.specs.Prelude.{ℕ, ◌-◌, List, take, Ok, Err, codes, Result}
 use Rattle.logic.specs.declared.row.SymbolRow.{SymbolRow}
 use Rattle.tokens.specs.declared.fault.Fault.{Fault}
-use Rattle.reading.specs.declared.cursor.Purpose.TheVariants.{Step}
+use Rattle.reading.specs.declared.purpose.Purpose.TheVariants.{Step}
 use Rattle.reading.specs.States.{Halt, halt, ◌>>=◌, lift, from, count_checked}
 use Rattle.reading.specs.Clauses.{opening, closing, wording, clause_from}
 use Rattle.reading.specs.Bindings.{Bound, held}

@@ -1,14 +1,16 @@
 //! Justifications.
 ghost use Rattle.std.specs.Prelude.{◌≡◌, OnOk};
-ghost use Rattle.reading.specs.Bindings.{InOrder, after_bindings};
-ghost use Rattle.lines.specs.Justifications.{few_at, after_keyword, keyword_at, after_cited, cited_at, bindings_part, Usable, after_justification, justification_at};
+ghost use Rattle.reading.specs.States.{◌then◌};
+ghost use Rattle.reading.specs.Readers.{Keeps, after_bindings};
+ghost use Rattle.reading.specs.Bindings.{InOrder};
+ghost use Rattle.lines.specs.Positions.{StaysInLine};
+ghost use Rattle.lines.specs.Justifications.{few_read, few_at, after_keyword, keyword_at, after_cited, cited_at, numbers_and_end, bindings_part, Usable, after_justification, justification_at};
 
 use crate::number::read_number;
 use crate::position::{POSITION_NUMBERS, read_position_part};
 use crate::shape::{Shape, Shapes};
-use logic::SymbolRow;
-use reading::{Bindings, close, open, read_bindings};
-use tokens::{Fault, keyword, next};
+use reading::{Bindings, Cursor, Reader};
+use tokens::Fault;
 
 /// How many premises, and how many literal numbers, a justification may have.
 pub const FEW: usize = 2;
@@ -24,76 +26,56 @@ pub struct Justification {
     pub bindings: Bindings,
 }
 
-/// At most two numbers, and the place behind them; 0 stands for a number that is not asked for.
-#[derive(Clone, Copy)]
-pub struct Few {
-    pub numbers: [u32; FEW],
-    pub end: usize,
-}
-
-/// A keyword, the shape that it stands for, and the place behind it.
+/// A keyword, and the shape that it stands for.
 #[derive(Clone, Copy)]
 pub struct Keyword<'a> {
     pub run: &'a [u8],
     pub shape: Shape,
-    pub end: usize,
 }
 
-/// A keyword with its premises and literal numbers.
+/// A keyword with its premises and literal numbers; 0 stands for a number that is not asked for.
 #[derive(Clone, Copy)]
 pub struct Cited<'a> {
     pub keyword: Keyword<'a>,
-    pub premises: Few,
-    pub literals: Few,
+    pub premises: [u32; FEW],
+    pub literals: [u32; FEW],
 }
 
-/// The numbers that are due in a row: none, one or two.
-fn read_few(line: &[u8], from: usize, wanted: u32) -> Result<Few, Fault>
-    ensures { result ≡ few_at line.now wanted from }
+/// The numbers that are due in a row: none, one or two; 0 stands for a number that is not asked for.
+fn read_few(at: &mut Cursor<'_>, wanted: u32) -> Result<[u32; FEW], Fault>
+    ensures is { few_read result at.new ≡ few_at at.old.line.now wanted at.old.pos }
+    ensures on { StaysInLine at.old at.new }
 {
-    if wanted == 0 {
-        return Ok(Few {
-            numbers: [0, 0],
-            end: from,
-        });
+    let mut numbers = [0; FEW];
+    if wanted > 0 {
+        numbers[0] = read_number(at)?;
     }
-    let a = read_number(line, from)?;
-    if wanted == 1 {
-        return Ok(Few {
-            numbers: [a.number, 0],
-            end: a.end,
-        });
+    if wanted > 1 {
+        numbers[1] = read_number(at)?;
     }
-    let b = read_number(line, a.end)?;
-    Ok(Few {
-        numbers: [a.number, b.number],
-        end: b.end,
-    })
+    Ok(numbers)
 }
 
 /// The keyword that is due.
-fn read_keyword<'a, S: Shapes>(line: &'a [u8], bench: &S, from: usize) -> Result<Keyword<'a>, Fault>
-    ensures { after_keyword result ≡ keyword_at line.now (S.shapes bench.now) from }
+fn read_keyword<'a, S: Shapes>(at: &mut Cursor<'a>, bench: &S) -> Result<Keyword<'a>, Fault>
+    ensures is { after_keyword result at.new ≡ keyword_at at.old.line.now (S.shapes bench.now) at.old.pos }
+    ensures on { StaysInLine at.old at.new }
 {
-    let t = next(line, from)?;
-    let run = keyword(t.token, t.place)?;
-    match bench.shape(run) {
-        Some(shape) => Ok(Keyword {
-            run,
-            shape,
-            end: t.end,
-        }),
-        None => Err(Fault::NoRule(t.place)),
-    }
+    let lexeme = at.next()?;
+    let run = lexeme.keyword()?;
+    let shape = bench.shape(run).ok_or(Fault::NoRule(lexeme.place))?;
+    Ok(Keyword { run, shape })
 }
 
 /// The keyword that is due, and behind it as many premises and literal numbers as its shape says.
-fn read_cited<'a, S: Shapes>(line: &'a [u8], bench: &S, from: usize) -> Result<Cited<'a>, Fault>
-    ensures { after_cited result ≡ cited_at line.now (S.shapes bench.now) from }
+#[tactic(auto, unfolding(crate::specs::Justifications::cited_at))]
+fn read_cited<'a, S: Shapes>(at: &mut Cursor<'a>, bench: &S) -> Result<Cited<'a>, Fault>
+    ensures is { after_cited result at.new ≡ (cited_at at.old.line.now (S.shapes bench.now) at.old.pos then numbers_and_end) }
+    ensures on { StaysInLine at.old at.new }
 {
-    let keyword = read_keyword(line, bench, from)?;
-    let premises = read_few(line, keyword.end, keyword.shape.premises)?;
-    let literals = read_few(line, premises.end, keyword.shape.literals)?;
+    let keyword = read_keyword(at, bench)?;
+    let premises = read_few(at, keyword.shape.premises)?;
+    let literals = read_few(at, keyword.shape.literals)?;
     Ok(Cited {
         keyword,
         premises,
@@ -103,61 +85,43 @@ fn read_cited<'a, S: Shapes>(line: &'a [u8], bench: &S, from: usize) -> Result<C
 
 /// The bindings, where they are due at all.
 fn read_bindings_part(
-    line: &[u8],
-    rows: &mut [SymbolRow],
-    symbols: &mut usize,
+    reader: &mut Reader<'_, '_>,
     bindings: &mut Bindings,
-    from: usize,
     due: bool,
-) -> Result<usize, Fault>
-    ensures is { after_bindings result bindings.new symbols.new rows.new ≡ bindings_part line.now due from symbols.old rows.old }
+) -> Result<(), Fault>
+    ensures is { after_bindings result bindings.new reader.new ≡ bindings_part reader.old.at.line.now due reader.old.at.pos reader.old.symbols reader.old.rows.now }
     ensures ordered { OnOk result (InOrder bindings.new) }
+    ensures line { reader.new.at.line ≡ reader.old.at.line }
+    ensures keeps { Keeps reader.old reader.new }
 {
     if due {
-        read_bindings(line, rows, symbols, bindings, from)
+        reader.bindings(bindings)
     } else {
         bindings.count = 0;
-        Ok(from)
+        Ok(())
     }
 }
 
 /// The justification that is due.
+#[tactic(auto, unfolding(crate::specs::Justifications::justification_at))]
 pub fn read_justification<'a, S: Shapes>(
-    line: &'a [u8],
+    reader: &mut Reader<'a, '_>,
     bench: &S,
-    rows: &mut [SymbolRow],
-    symbols: &mut usize,
     justification: &mut Justification,
-    from: usize,
 ) -> Result<Keyword<'a>, Fault>
-    ensures is { after_justification result justification.new symbols.new rows.new ≡ justification_at line.now (S.shapes bench.now) from symbols.old rows.old }
+    ensures is { after_justification result justification.new reader.new ≡ justification_at reader.old.at.line.now (S.shapes bench.now) reader.old.at.pos reader.old.symbols reader.old.rows.now }
     ensures usable { OnOk result (Usable justification.new) }
+    ensures line { reader.new.at.line ≡ reader.old.at.line }
+    ensures keeps { Keeps reader.old reader.new }
 {
-    let inner = open(line, from)?;
-    let cited = read_cited(line, bench, inner)?;
+    reader.at.open()?;
+    let cited = read_cited(&mut reader.at, bench)?;
     let shape = cited.keyword.shape;
-    let steps = read_position_part(
-        line,
-        &mut justification.position,
-        cited.literals.end,
-        shape.position,
-    )?;
-    let bound = read_bindings_part(
-        line,
-        rows,
-        symbols,
-        &mut justification.bindings,
-        steps.end,
-        shape.bindings,
-    )?;
-    let end = close(line, bound)?;
-    let premises = cited.premises.numbers;
-    let literals = cited.literals.numbers;
-    justification.premises = premises;
-    justification.literals = literals;
-    justification.steps = steps.count;
-    Ok(Keyword {
-        end,
-        ..cited.keyword
-    })
+    let steps = read_position_part(&mut reader.at, &mut justification.position, shape.position)?;
+    read_bindings_part(reader, &mut justification.bindings, shape.bindings)?;
+    reader.at.close()?;
+    justification.premises = cited.premises;
+    justification.literals = cited.literals;
+    justification.steps = steps;
+    Ok(cited.keyword)
 }

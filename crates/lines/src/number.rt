@@ -1,47 +1,39 @@
 //! Numbers of a line, and its end.
-ghost use Rattle.std.specs.Prelude.{◌≡◌, ◌<◌, ◌≤◌, length};
-ghost use Rattle.lines.specs.Numbers.{number_at, step_number, line_end};
+ghost use Rattle.std.specs.Prelude.{◌≡◌};
+ghost use Rattle.reading.specs.States.{◌then◌};
+ghost use Rattle.reading.specs.Cursors.{Onward};
+ghost use Rattle.lines.specs.Numbers.{number_at, step_number, line_end, number_read, number_and_end};
 
-use tokens::{Fault, next, number};
-
-/// A number, its place and the place behind it.
-#[derive(Clone, Copy)]
-pub struct Numbered {
-    pub number: u32,
-    pub place: usize,
-    pub end: usize,
-}
+use reading::Cursor;
+use tokens::{Fault, next};
 
 /// The number that is due.
-pub fn read_number(line: &[u8], from: usize) -> Result<Numbered, Fault>
-    ensures { result ≡ number_at line.now from }
+pub fn read_number(at: &mut Cursor<'_>) -> Result<u32, Fault>
+    ensures is { number_read result at.new ≡ (number_at at.old.line.now at.old.pos then number_and_end) }
+    ensures on { Onward at.old at.new result }
 {
-    let t = next(line, from)?;
-    let number = number(t.token, t.place)?;
-    Ok(Numbered {
-        number,
-        place: t.place,
-        end: t.end,
-    })
+    at.next()?.number()
 }
 
 /// The step number that is due: a number of at least 1.
-pub fn read_step_number(line: &[u8], from: usize) -> Result<Numbered, Fault>
-    ensures { result ≡ step_number line.now from }
+pub fn read_step_number(at: &mut Cursor<'_>) -> Result<u32, Fault>
+    ensures is { number_read result at.new ≡ (step_number at.old.line.now at.old.pos then number_and_end) }
+    ensures on { Onward at.old at.new result }
 {
-    let m = read_number(line, from)?;
-    if m.number == 0 {
-        return Err(Fault::Form(m.place));
+    let lexeme = at.next()?;
+    let number = lexeme.number()?;
+    if number == 0 {
+        return Err(Fault::Form(lexeme.place));
     }
-    Ok(m)
+    Ok(number)
 }
 
 /// Refuses whatever stands behind the line's closing bracket but spaces.
-pub fn check_end(line: &[u8], from: usize) -> Result<(), Fault>
-    ensures { result ≡ line_end line.now from }
+pub fn check_end(at: Cursor<'_>) -> Result<(), Fault>
+    ensures { result ≡ line_end at.entry.line.now at.entry.pos }
 {
-    match next(line, from) {
-        Ok(t) => Err(Fault::Due(t.place)),
+    match next(at.line, at.pos) {
+        Ok(lexeme) => Err(Fault::Due(lexeme.place)),
         Err(Fault::Early(_)) => Ok(()),
         Err(fault) => Err(fault),
     }

@@ -1,95 +1,75 @@
 //! Positions.
-ghost use Rattle.std.specs.Prelude.{◌≡◌, ◌+◌, ◌-◌, ◌≤◌, take, IfOk, ◌==◌};
+ghost use Rattle.std.specs.Prelude.{◌≡◌, ◌+◌, ◌<◌, ◌≤◌, IfOk, IfSome, [], ◌≢◌, ◌==◌};
 ghost use Rattle.lines.specs.Limits.{position_numbers};
-ghost use Rattle.lines.specs.Positions.{IsClosed, position_mark, after_position, position_list, position_at, position_part};
+ghost use Rattle.reading.specs.Cursors.{Onward};
+ghost use Rattle.lines.specs.Positions.{turned_to, position_mark, position_read, position_list, position_at, position_part, StaysInLine};
 
-use reading::open;
-use tokens::{Fault, Token, next, number};
+use reading::Cursor;
+use tokens::{Fault, Token};
 
 /// How many numbers a position may have.
 pub const POSITION_NUMBERS: usize = 32;
 
-/// What stands where one more number of a position or its closing bracket is due, with the place behind it.
-#[derive(Clone, Copy)]
-pub enum Turn {
-    Closed(usize),
-    Given(u32, usize),
-}
-
-/// How many numbers a position has, and the place behind it.
-#[derive(Clone, Copy)]
-pub struct Steps {
-    pub count: usize,
-    pub end: usize,
-}
-
-/// Where one more number or the closing bracket is due; `given` numbers are read already.
-fn read_turn(line: &[u8], from: usize, given: usize) -> Result<Turn, Fault>
-    ensures is { result ≡ position_mark line.now (given == position_numbers) from }
-    ensures on { IfOk result (λ t. given ≡ position_numbers → IsClosed t) }
+/// The next number of a position, or none at its closing bracket; `given` numbers are read already.
+fn next_number(at: &mut Cursor<'_>, given: usize) -> Result<Option<u32>, Fault>
+    ensures is { turned_to result at.new ≡ position_mark at.old.line.now (given == position_numbers) at.old.pos }
+    ensures few { IfOk result (λ o. IfSome o (λ n. given ≢ position_numbers)) }
+    ensures on { Onward at.old at.new result }
 {
-    let t = next(line, from)?;
-    match t.token {
-        Token::Close => Ok(Turn::Closed(t.end)),
-        token => {
-            let n = number(token, t.place)?;
-            if given == POSITION_NUMBERS {
-                return Err(Fault::ManyNumbers(t.place));
-            }
-            Ok(Turn::Given(n, t.end))
-        }
+    let lexeme = at.next()?;
+    if lexeme.token == Token::Close {
+        return Ok(None);
     }
+    let number = lexeme.number()?;
+    if given == POSITION_NUMBERS {
+        return Err(Fault::ManyNumbers(lexeme.place));
+    }
+    Ok(Some(number))
 }
 
-/// The numbers up to the closing bracket; `given` are read already.
+/// The numbers up to the closing bracket: how many.
 fn position_list(
-    line: &[u8],
+    at: &mut Cursor<'_>,
     position: &mut [u32; POSITION_NUMBERS],
-    from: usize,
-    given: usize,
-) -> Result<Steps, Fault>
-    requires { given ≤ position_numbers }
-    ensures is { after_position result position.new ≡ position_list line.now (position_numbers + 1 - given) (take given position.old) from }
-    ensures few { IfOk result (λ s. s.count ≤ position_numbers) }
+) -> Result<usize, Fault>
+    ensures is { position_read result position.new at.new ≡ position_list at.old.line.now (position_numbers + 1) [] at.old.pos }
+    ensures few { IfOk result (λ n. n ≤ position_numbers) }
+    ensures on { StaysInLine at.old at.new }
 {
-    match read_turn(line, from, given)? {
-        Turn::Closed(end) => Ok(Steps { count: given, end }),
-        Turn::Given(n, end) => {
-            position[given] = n;
-            position_list(line, position, end, given + 1)
-        }
+    let mut given = 0;
+    while let Some(number) = next_number(at, given)? {
+        position[given] = number;
+        given += 1;
     }
+    Ok(given)
 }
 
-/// The position that is due.
+/// The position that is due: how many numbers it has.
 fn read_position(
-    line: &[u8],
+    at: &mut Cursor<'_>,
     position: &mut [u32; POSITION_NUMBERS],
-    from: usize,
-) -> Result<Steps, Fault>
-    ensures is { after_position result position.new ≡ position_at line.now from }
-    ensures few { IfOk result (λ s. s.count ≤ position_numbers) }
+) -> Result<usize, Fault>
+    ensures is { position_read result position.new at.new ≡ position_at at.old.line.now at.old.pos }
+    ensures few { IfOk result (λ n. n ≤ position_numbers) }
+    ensures on { StaysInLine at.old at.new }
 {
-    let inner = open(line, from)?;
-    position_list(line, position, inner, 0)
+    at.open()?;
+    position_list(at, position)
 }
 
 /// The position, where one is due at all.
 pub fn read_position_part(
-    line: &[u8],
+    at: &mut Cursor<'_>,
     position: &mut [u32; POSITION_NUMBERS],
-    from: usize,
     due: bool,
-) -> Result<Steps, Fault>
-    ensures is { after_position result position.new ≡ position_part line.now due from }
-    ensures few { IfOk result (λ s. s.count ≤ position_numbers) }
+) -> Result<usize, Fault>
+    ensures is { position_read result position.new at.new ≡ position_part at.old.line.now due at.old.pos }
+    ensures few { IfOk result (λ n. n ≤ position_numbers) }
+    ensures on { StaysInLine at.old at.new }
 {
     if due {
-        read_position(line, position, from)
+        read_position(at, position)
     } else {
-        Ok(Steps {
-            count: 0,
-            end: from,
-        })
+        Ok(0)
     }
 }

@@ -2,11 +2,12 @@
 ghost use Rattle.std.specs.Prelude.{◌≡◌, ◌≤◌, length, take};
 ghost use Rattle.logic.specs.Limits.{symbols as symbol_room};
 ghost use Rattle.reading.specs.Fixed.{Fixed};
+ghost use Rattle.reading.specs.Readers.{Keeps};
 ghost use Rattle.lines.specs.Rules.{after_rule, rule_line};
 
 use crate::number::{check_end, read_step_number};
 use logic::SymbolRow;
-use reading::{Purpose, check_count, close, open, read_clause, word};
+use reading::{Cursor, Purpose, Reader, check_count};
 use tokens::Fault;
 
 /// A rule line: the place of its opening bracket, its step number and how many words its clause has.
@@ -18,25 +19,23 @@ pub struct RuleLine {
 }
 
 /// The text of a rule line.
-fn read_text(
-    line: &[u8],
-    rows: &mut [SymbolRow],
-    symbols: &mut usize,
-    out: &mut [u32],
-) -> Result<RuleLine, Fault>
-    ensures { after_rule result out.new symbols.new rows.new ≡ rule_line line.now out.old symbols.old rows.old }
+#[tactic(auto, unfolding(crate::specs::Rules::rule_line))]
+fn read_text(reader: &mut Reader<'_, '_>, out: &mut [u32]) -> Result<RuleLine, Fault>
+    requires { reader.old.at.pos ≡ 0 }
+    ensures is { after_rule result out.new reader.new.symbols reader.new.rows.now ≡ rule_line reader.old.at.line.now out.old reader.old.symbols reader.old.rows.now }
+    ensures keeps { Keeps reader.old reader.new }
 {
-    check_count(rows, *symbols)?;
-    let inner = open(line, 0)?;
-    let named = word(line, inner, b"rule")?;
-    let step = read_step_number(line, named)?;
-    let clause = read_clause(line, rows, symbols, out, Purpose::Rule, step.end)?;
-    let end = close(line, clause.pos)?;
-    check_end(line, end)?;
+    reader.at.open()?;
+    let place = reader.at.pos - 1;
+    reader.at.word(b"rule")?;
+    let number = read_step_number(&mut reader.at)?;
+    let words = reader.clause(Purpose::Rule, out)?;
+    reader.at.close()?;
+    check_end(reader.at)?;
     Ok(RuleLine {
-        place: inner - 1,
-        number: step.number,
-        words: clause.count,
+        place,
+        number,
+        words,
     })
 }
 
@@ -52,5 +51,15 @@ pub fn read_rule(
     ensures kept { Fixed symbols.old rows.old → take symbols.old rows.new ≡ take symbols.old rows.old }
     ensures counted { (symbols.old ≤ symbols.new) × ((symbols.old ≤ length rows.old) × (symbols.old ≤ symbol_room) → (symbols.new ≤ length rows.new) × (symbols.new ≤ symbol_room)) }
 {
-    read_text(line, rows, symbols, out)
+    check_count(rows, *symbols)?;
+    let mut reader = Reader {
+        purpose: Purpose::Rule,
+        at: Cursor { line, pos: 0 },
+        count: 0,
+        rows,
+        symbols: *symbols,
+    };
+    let read = read_text(&mut reader, out);
+    *symbols = reader.symbols;
+    read
 }

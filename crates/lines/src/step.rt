@@ -1,14 +1,15 @@
 //! Step lines.
 ghost use Rattle.std.specs.Prelude.{◌≡◌, OnOk};
 ghost use Rattle.reading.specs.Fixed.{Fixed};
+ghost use Rattle.reading.specs.Readers.{Keeps};
 ghost use Rattle.lines.specs.Justifications.{Usable};
 ghost use Rattle.lines.specs.Steps.{after_step, step_text, step_line};
 
-use crate::justification::{Justification, read_justification};
+use crate::justification::{Justification, Keyword, read_justification};
 use crate::number::{check_end, read_step_number};
 use crate::shape::{Shape, Shapes};
 use logic::SymbolRow;
-use reading::{Purpose, check_count, close, open, read_clause, word};
+use reading::{Cursor, Purpose, Reader, check_count};
 use tokens::Fault;
 
 /// A step line: the place of its opening bracket, its step number, the keyword of its justification, the shape that this stands for, and how
@@ -23,30 +24,32 @@ pub struct StepLine<'a> {
 }
 
 /// The text of a step line.
+#[tactic(auto, unfolding(crate::specs::Steps::step_text))]
 fn read_text<'a, S: Shapes>(
-    line: &'a [u8],
+    reader: &mut Reader<'a, '_>,
     bench: &S,
-    rows: &mut [SymbolRow],
-    symbols: &mut usize,
     out: &mut [u32],
     justification: &mut Justification,
 ) -> Result<StepLine<'a>, Fault>
-    ensures is { after_step result justification.new out.new symbols.new rows.new ≡ step_text line.now (S.shapes bench.now) out.old symbols.old rows.old }
+    requires { reader.old.at.pos ≡ 0 }
+    ensures is { after_step result justification.new out.new reader.new.symbols reader.new.rows.now ≡ step_text reader.old.at.line.now (S.shapes bench.now) out.old reader.old.symbols reader.old.rows.now }
     ensures usable { OnOk result (Usable justification.new) }
+    ensures keeps { Keeps reader.old reader.new }
 {
-    let inner = open(line, 0)?;
-    let named = word(line, inner, b"step")?;
-    let step = read_step_number(line, named)?;
-    let keyword = read_justification(line, bench, rows, symbols, justification, step.end)?;
-    let clause = read_clause(line, rows, symbols, out, Purpose::Step, keyword.end)?;
-    let end = close(line, clause.pos)?;
-    check_end(line, end)?;
+    reader.at.open()?;
+    let place = reader.at.pos - 1;
+    reader.at.word(b"step")?;
+    let number = read_step_number(&mut reader.at)?;
+    let Keyword { run, shape } = read_justification(reader, bench, justification)?;
+    let words = reader.clause(Purpose::Step, out)?;
+    reader.at.close()?;
+    check_end(reader.at)?;
     Ok(StepLine {
-        place: inner - 1,
-        number: step.number,
-        keyword: keyword.run,
-        shape: keyword.shape,
-        words: clause.count,
+        place,
+        number,
+        keyword: run,
+        shape,
+        words,
     })
 }
 
@@ -66,5 +69,14 @@ pub fn read_step<'a, S: Shapes>(
     ensures kept { Fixed symbols.old rows.old → rows.new ≡ rows.old }
 {
     check_count(rows, *symbols)?;
-    read_text(line, bench, rows, symbols, out, justification)
+    let mut reader = Reader {
+        purpose: Purpose::Step,
+        at: Cursor { line, pos: 0 },
+        count: 0,
+        rows,
+        symbols: *symbols,
+    };
+    let read = read_text(&mut reader, bench, out, justification);
+    *symbols = reader.symbols;
+    read
 }

@@ -10,11 +10,11 @@ use Rattle.logic.specs.declared.row.SymbolRow.{SymbolRow}
 use Rattle.logic.specs.declared.row.Kind.{Kind}
 use Rattle.logic.specs.declared.row.Kind.TheVariants.{Function}
 use Rattle.tokens.specs.declared.fault.Fault.{Fault}
-use Rattle.reading.specs.declared.cursor.Purpose.TheVariants.{Binding}
-use Rattle.reading.specs.declared.mark.Mark.{Mark}
-use Rattle.reading.specs.declared.mark.Mark.TheVariants.{Closed as Ended, Opened as Begun}
-use Rattle.reading.specs.declared.term.Slot.{Slot}
-use Rattle.reading.specs.declared.term.Slot.TheVariants.{Closed, Variable, Opened}
+use Rattle.reading.specs.declared.purpose.Purpose.TheVariants.{Binding}
+use Rattle.reading.specs.Marks.{Mark}
+use Rattle.reading.specs.Marks.{Closed as Ended, Opened as Begun}
+use Rattle.reading.specs.Slots.{Slot}
+use Rattle.reading.specs.Slots.{Closed, Variable, Opened}
 use Rattle.reading.specs.Limits as limits
 use Rattle.reading.specs.States.{State, Halt, ◌>>=◌, from, moved, written, full}
 use Rattle.reading.specs.Entering.{Headed, head, settle}

@@ -11,7 +11,7 @@ use Rattle.tokens.specs.declared.fault.Fault.{Fault}
 use Rattle.tokens.specs.declared.fault.Fault.TheVariants.{Unknown, OtherKind, OtherArity, ManySymbols, Count}
 use Rattle.tokens.specs.Tokens.{lex}
 use Rattle.tokens.specs.Forms.{symbol_form}
-use Rattle.reading.specs.declared.cursor.Purpose.{Purpose}
+use Rattle.reading.specs.declared.purpose.Purpose.{Purpose}
 use Rattle.reading.specs.States.{State, Halt, halt, lift, from, enters, exceeds}
 use Rattle.reading.specs.Entering.{Met, Headed, head, known, meet, new_row, settle, with_arity, room_for_word}
 use Rattle.reading.specs.Terms.{headed_state, with_rows}

@@ -7,8 +7,8 @@ use Rattle.logic.specs.declared.row.Kind.TheVariants.{Function}
 use Rattle.tokens.specs.declared.fault.Fault.{Fault}
 use Rattle.tokens.specs.Tokens.{Tok, Lexed, opens, closes, equals, number, variable, word, lex}
 use Rattle.tokens.specs.Forms.{variable_form}
-use Rattle.reading.specs.declared.term.Slot.{Slot}
-use Rattle.reading.specs.declared.term.Slot.TheVariants.{Closed, Variable, Opened}
+use Rattle.reading.specs.Slots.{Slot}
+use Rattle.reading.specs.Slots.{Closed, Variable, Opened}
 use Rattle.reading.specs.States.{State, Halt, halt, ◌>>=◌, ◌then◌, from, moved, written, full}
 use Rattle.reading.specs.Entering.{head, settle}
 use Rattle.reading.specs.Terms.{fitting, slot, slot_at, turn, headed_state, with_rows, args, body, nest, application, term_turn, term}

@@ -8,11 +8,10 @@ use Rattle.tokens.specs.declared.fault.Fault.{Fault}
 use Rattle.tokens.specs.declared.fault.Fault.TheVariants.{ManyWords}
 use Rattle.tokens.specs.Tokens.{lex}
 use Rattle.tokens.specs.Forms.{symbol_form}
-use Rattle.reading.specs.declared.cursor.Cursor.{Cursor}
-use Rattle.reading.specs.declared.cursor.Purpose.{Purpose}
-use Rattle.reading.specs.declared.cursor.Purpose.TheVariants.{Rule, Step, Binding}
+use Rattle.reading.specs.declared.purpose.Purpose.{Purpose}
+use Rattle.reading.specs.declared.purpose.Purpose.TheVariants.{Rule, Step, Binding}
 use Rattle.reading.specs.Limits as limits
-use Rattle.reading.specs.States.{State, Halt, halt, state, after, lift, from, full}
+use Rattle.reading.specs.States.{State, Halt, halt, lift, from, full}
 use Rattle.reading.specs.Entering.{Headed, head, settle, meet, room_for_word}
 use Rattle.reading.specs.Terms.{headed_state, with_rows, term}
 use Rattle.reading.proofs.Keeping.{Safe, bind_safe, Any, term_safe}
@@ -75,5 +74,5 @@ module _ (c : ℕ) (old : List ℕ) where
       term_safe WordsKept Any Any (λ s f h. tt) (λ s e h. h) (λ s e w f h. let more = one_more s w f h in (h.0, more.0, more.1, more.2)) heads settles bs room st g
 
   -- what the reader of a term leaves
-  pub term_kept : (bs : List ℕ) (room : ℕ) (st : State) (a : Cursor) (out : List ℕ) (n : ℕ) (rows : List SymbolRow) → WordsKept st → after (Ok a) out n rows ≡ term bs room st → WordsKept (state a out n rows)
-  term_kept bs room st a out n rows g e = subst (Safe Any WordsKept) (sym e) (term_words_kept bs room st g)
+  pub term_kept : (bs : List ℕ) (room : ℕ) (st s : State) → WordsKept st → Ok s ≡ term bs room st → WordsKept s
+  term_kept bs room st s g e = subst (Safe Any WordsKept) (sym e) (term_words_kept bs room st g)

@@ -8,7 +8,10 @@ use Rattle.std.proofs.lemmas.Bool.{cases_eq}
 use Rattle.std.proofs.lemmas.Bool.Decides.{nat_tests}
 use Rattle.reading.specs.declared.bindings.Bindings.{Bindings}
 use Rattle.reading.specs.Limits as limits
-use Rattle.reading.specs.States.{State, ◌>>=◌, from}
+use Rattle.tokens.specs.declared.fault.Fault.TheVariants.{ManyBindings}
+use Rattle.reading.specs.Cursors.{bracket_at}
+use Rattle.reading.specs.States.{State, ◌>>=◌, ◌then◌, from}
+use Rattle.reading.proofs.Lists.{listed, marks_are_brackets}
 use Rattle.reading.specs.Bindings.{Bound, held_at, held, InOrder, Filled, pushed, binding_mark, binding_turn, binding, binding_list}
 
 -- no binding
@@ -90,11 +93,12 @@ module _ (bs : List ℕ) where
   unfolding binding_list
   bindings_suc n done st = refl
 
-  pub bindings_turn : (given : ℕ) (done : List Bound) (st : State) → given ≤ limits.bindings → binding_list bs (limits.bindings + 1 - given) done st ≡ (from st (binding_mark bs (eqb given limits.bindings) st.pos) >>= binding_turn (binding bs) (binding_list bs (limits.bindings + 1 - (given + 1))) done st)
+  pub bindings_turn : (given : ℕ) (done : List Bound) (st : State) → given ≤ limits.bindings → binding_list bs (limits.bindings + 1 - given) done st ≡ (from st (bracket_at bs st.pos then listed ManyBindings (eqb given limits.bindings)) >>= binding_turn (binding bs) (binding_list bs (limits.bindings + 1 - (given + 1))) done st)
   bindings_turn given done st few =
       let e : limits.bindings + 1 - given ≡ suc (limits.bindings - given) = omega arith in
       let f : eqb (limits.bindings - given) 0 ≡ eqb given limits.bindings = grind (arith, nat_tests) in
       let g : limits.bindings - given ≡ limits.bindings + 1 - (given + 1) = omega arith in
       ap (λ n. binding_list bs n done st) e ∙ bindings_suc (limits.bindings - given) done st
-      ∙ ap (λ b. from st (binding_mark bs b st.pos) >>= binding_turn (binding bs) (binding_list bs (limits.bindings - given)) done st) f
-      ∙ ap (λ n. from st (binding_mark bs (eqb given limits.bindings) st.pos) >>= binding_turn (binding bs) (binding_list bs n) done st) g
+      ∙ ap (λ r. from st r >>= binding_turn (binding bs) (binding_list bs (limits.bindings - given)) done st) (marks_are_brackets ManyBindings (eqb (limits.bindings - given) 0) bs st.pos)
+      ∙ ap (λ b. from st (bracket_at bs st.pos then listed ManyBindings b) >>= binding_turn (binding bs) (binding_list bs (limits.bindings - given)) done st) f
+      ∙ ap (λ n. from st (bracket_at bs st.pos then listed ManyBindings (eqb given limits.bindings)) >>= binding_turn (binding bs) (binding_list bs n) done st) g

@@ -11,8 +11,8 @@ use Rattle.tokens.specs.declared.fault.Fault.{Fault}
 use Rattle.tokens.specs.declared.fault.Fault.TheVariants.{Unknown, OtherKind, OtherArity, ManySymbols, Count}
 use Rattle.tokens.specs.Tokens.{lex}
 use Rattle.tokens.specs.Forms.{symbol_form}
-use Rattle.reading.specs.declared.cursor.Purpose.{Purpose}
-use Rattle.reading.specs.declared.cursor.Purpose.TheVariants.{Binding}
+use Rattle.reading.specs.declared.purpose.Purpose.{Purpose}
+use Rattle.reading.specs.declared.purpose.Purpose.TheVariants.{Binding}
 use Rattle.reading.specs.Limits as limits
 use Rattle.reading.specs.States.{State, Halt, halt, ◌>>=◌, lift, from, enters, exceeds}
 use Rattle.reading.specs.Entering.{Met, Headed, head, known, meet, new_row, settle, with_arity, room_for_word}

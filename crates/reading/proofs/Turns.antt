@@ -1,9 +1,12 @@
 -- Steps of the reading of an application.
-use Rattle.std.proofs.Common.{◌≡◌, ℕ, suc, ◌+◌, ◌-◌, ◌<◌, ◌≤◌, Bool, eqb, List, Result, refl, ap, ◌∙◌, arith}
+use Rattle.std.proofs.Common.{◌≡◌, ℕ, suc, ◌+◌, ◌-◌, ◌<◌, ◌≤◌, Bool, eqb, List, Some, Ok, Result, sym, refl, ap, ◌∙◌, arith}
 use Rattle.std.proofs.lemmas.Bool.Decides.{nat_tests}
 use Rattle.logic.specs.declared.row.Kind.TheVariants.{Function}
-use Rattle.reading.specs.declared.term.Slot.{Slot}
-use Rattle.reading.specs.States.{State, Halt, ◌>>=◌, from, full}
+use Rattle.reading.specs.Slots.{Slot}
+use Rattle.reading.specs.declared.term.Argument.{Argument}
+use Rattle.reading.specs.declared.term.Argument.TheVariants.{Variable, Term}
+use Rattle.reading.specs.States.{State, Halt, ◌>>=◌, from, full, moved}
+use Rattle.reading.specs.Readers.{slotted, finished}
 use Rattle.reading.specs.Terms.{slot, turn, args, nest, application}
 
 module _ (bs : List ℕ) where
@@ -32,3 +35,14 @@ module _ (bs : List ℕ) where
         ap (λ n. args bs nested deep n given st) e ∙ args_suc (4 - given)
         ∙ ap (λ b. slot_now b >>= turn nested (args bs nested deep (4 - given) (given + 1)) given st) f
         ∙ ap (λ n. slot_now (eqb given 4) >>= turn nested (args bs nested deep n (given + 1)) given st) g
+
+-- one argument and those after it
+pub args_goes : (bs : List ℕ) (room given : ℕ) (st : State) (a : Argument) (e : ℕ) → given ≤ 4 → 0 < room → slotted (Ok (Some a)) e ≡ slot bs (eqb room 0) (full st.purpose st.count) (eqb given 4) st.pos → args bs (nest bs room) (eqb room 0) (5 - given) given st ≡ (finished bs room a (moved st e) >>= args bs (nest bs room) (eqb room 0) (5 - (given + 1)) (given + 1))
+args_goes bs room given st a e few deep s =
+    args_turn bs (nest bs room) (eqb room 0) given st few
+    ∙ ap (λ r. from st r >>= turn (nest bs room) (args bs (nest bs room) (eqb room 0) (5 - (given + 1)) (given + 1)) given st) (sym s)
+    ∙ by a
+  where
+    by : (b : Argument) → (from st (slotted (Ok (Some b)) e) >>= turn (nest bs room) (args bs (nest bs room) (eqb room 0) (5 - (given + 1)) (given + 1)) given st) ≡ (finished bs room b (moved st e) >>= args bs (nest bs room) (eqb room 0) (5 - (given + 1)) (given + 1))
+    by (Variable i) = refl
+    by Term = ap (λ r. r >>= args bs (nest bs room) (eqb room 0) (5 - (given + 1)) (given + 1)) (nest_application bs room (moved st e) deep)

@@ -6,8 +6,8 @@ use Rattle.logic.specs.declared.row.Kind.{Kind}
 use Rattle.logic.specs.declared.row.Kind.TheVariants.{Predicate}
 use Rattle.tokens.specs.declared.fault.Fault.{Fault}
 use Rattle.tokens.specs.Tokens.{lex}
-use Rattle.reading.specs.declared.mark.Mark.{Mark}
-use Rattle.reading.specs.declared.mark.Mark.TheVariants.{Closed, Opened}
+use Rattle.reading.specs.Marks.{Mark}
+use Rattle.reading.specs.Marks.{Closed, Opened}
 use Rattle.reading.specs.States.{State, Halt, halt, from, moved, written}
 use Rattle.reading.specs.Entering.{head, settle}
 use Rattle.reading.specs.Terms.{headed_state, with_rows, application, term}

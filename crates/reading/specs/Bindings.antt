@@ -7,14 +7,11 @@ use Rattle.tokens.specs.declared.fault.Fault.{Fault}
 use Rattle.tokens.specs.declared.fault.Fault.TheVariants.{Due, ManyBindings, Count}
 use Rattle.tokens.specs.Tokens.{Tok, opens, closes, equals, number, variable, word, lex}
 use Rattle.tokens.specs.Forms.{variable_form}
-use Rattle.reading.specs.declared.mark.Mark.{Mark}
-use Rattle.reading.specs.declared.mark.Mark.TheVariants.{Closed, Opened}
-use Rattle.reading.specs.declared.cursor.Purpose.TheVariants.{Binding}
+use Rattle.reading.specs.Marks.{Mark, Closed, Opened}
+use Rattle.reading.specs.declared.purpose.Purpose.TheVariants.{Binding}
 use Rattle.reading.specs.declared.bindings.Bindings.{Bindings}
-use Rattle.reading.specs.declared.bindings.Found.{Found}
-use Rattle.reading.specs.declared.bindings.Pair.{Pair}
 use Rattle.reading.specs.Limits as limits
-use Rattle.reading.specs.States.{State, Halt, halt, state, ◌>>=◌, ◌then◌, lift, from, moved, exceeds}
+use Rattle.reading.specs.States.{State, Halt, halt, ◌>>=◌, ◌then◌, lift, from, moved, exceeds}
 use Rattle.reading.specs.Terms.{term}
 use Rattle.reading.specs.Clauses.{opening, closing, marked}
 
@@ -29,6 +26,11 @@ pub record Bounds : Type 0 where
   pub end : ℕ
   pub symbols : ℕ
   pub rows : List SymbolRow
+
+-- a variable, and the place behind it
+pub record Found : Type 0 where
+  pub variable : ℕ
+  pub end : ℕ
 
 -- the variable that a token is, where the variable of a binding is due
 abbrev pub variable_due : ℕ → Tok → Result ℕ Fault
@@ -71,14 +73,6 @@ Filled b c =
 abbrev pub pushed : Bindings → ℕ → ℕ → Bindings
 pushed b v end =
     record { variables = slice_set b.variables b.count v; places = slice_set b.places (b.count + 1) end; terms = b.terms; count = b.count + 1 }
-
-abbrev pub after_binding : Result Pair Fault → ℕ → List ℕ → ℕ → List SymbolRow → Result (Bound × State) Halt
-after_binding (Ok p) start out n rows = Ok (record { variable = p.variable; words = between start p.at.count out }, state p.at out n rows)
-after_binding (Err f) start out n rows = Err (halt f n rows)
-
-abbrev pub after_bindings : Result ℕ Fault → Bindings → ℕ → List SymbolRow → Result Bounds Halt
-after_bindings (Ok e) b n rows = Ok (record { bound = held b; end = e; symbols = n; rows = rows })
-after_bindings (Err f) b n rows = Err (halt f n rows)
 
 -- what a mark leads to: `one` reads a binding behind its bracket, `rest` those after it; `done` are read already
 abbrev pub binding_turn : (State → Result (Bound × State) Halt) → (List Bound → State → Result Bounds Halt) → List Bound → State → Mark → Result Bounds Halt

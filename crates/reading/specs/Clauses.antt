@@ -1,5 +1,5 @@
 -- The words of a clause.
-use Rattle.std.specs.Prelude.{ℕ, zero, suc, ◌+◌, ◌<◌, ◌≤◌, Bool, true, false, cond, List, Ok, Err, codes, Result, ◌==◌}
+use Rattle.std.specs.Prelude.{ℕ, zero, suc, ◌+◌, Bool, true, false, cond, List, Ok, Err, codes, Result, ◌==◌}
 use Rattle.std.specs.Str.{bytes_eq}
 use Rattle.logic.specs.Limits as limits
 use Rattle.logic.specs.Words.{symbol_word, equality_word, negation}
@@ -8,9 +8,8 @@ use Rattle.logic.specs.declared.row.Kind.TheVariants.{Predicate}
 use Rattle.tokens.specs.declared.fault.Fault.{Fault}
 use Rattle.tokens.specs.declared.fault.Fault.TheVariants.{Due, ManyLiterals, Count}
 use Rattle.tokens.specs.Tokens.{Tok, opens, closes, equals, number, variable, word, lex}
-use Rattle.reading.specs.declared.mark.Mark.{Mark}
-use Rattle.reading.specs.declared.mark.Mark.TheVariants.{Closed, Opened}
-use Rattle.reading.specs.declared.cursor.Purpose.{Purpose}
+use Rattle.reading.specs.Marks.{Mark, Closed, Opened}
+use Rattle.reading.specs.declared.purpose.Purpose.{Purpose}
 use Rattle.reading.specs.States.{State, Halt, halt, ◌>>=◌, ◌then◌, from, moved, written, exceeds}
 use Rattle.reading.specs.Terms.{application, term}
 
@@ -58,16 +57,6 @@ marked f none at end equals = Err (Due at)
 marked f none at end (number r) = Err (Due at)
 marked f none at end (variable r) = Err (Due at)
 marked f none at end (word r) = Err (Due at)
-
--- a mark lies behind p and within the line
-abbrev pub MarkOn : ℕ → ℕ → Mark → Type 0
-MarkOn len p (Closed e) = (p < e) × (e ≤ len)
-MarkOn len p (Opened e) = (p < e) × (e ≤ len)
-
--- the list ends there
-abbrev pub IsClosed : Mark → Type 0
-IsClosed (Closed e) = Unit {0}
-IsClosed (Opened e) = ⊥
 
 abbrev pub literal_mark : List ℕ → Bool → ℕ → Result Mark Fault
 literal_mark bs none p = lex bs p then λ l. marked (ManyLiterals l.place) none l.place l.end l.tok

@@ -9,8 +9,8 @@ use Rattle.tokens.specs.declared.fault.Fault.{Fault}
 use Rattle.tokens.specs.declared.fault.Fault.TheVariants.{ManyWords, OtherKind, OtherArity, Unknown, ManySymbols}
 use Rattle.tokens.specs.Tokens.{lex}
 use Rattle.tokens.specs.Forms.{symbol_form}
-use Rattle.reading.specs.declared.cursor.Purpose.{Purpose}
-use Rattle.reading.specs.declared.symbols.Head.{Head}
+use Rattle.reading.specs.declared.purpose.Purpose.{Purpose}
+use Rattle.reading.specs.declared.reader.Head.{Head}
 use Rattle.reading.specs.States.{Halt, halt, ◌>>=◌, lift, enters, full}
 
 -- the arity of a symbol whose first closing bracket is still to come
@@ -60,9 +60,9 @@ pub record Headed : Type 0 where
   pub symbols : ℕ
   pub rows : List SymbolRow
 
-abbrev pub headed : Result Head Fault → ℕ → List SymbolRow → Result Headed Halt
-headed (Ok h) n rows = Ok (record { symbol = h.symbol; place = h.place; end = h.end; symbols = n; rows = rows })
-headed (Err f) n rows = Err (halt f n rows)
+abbrev pub headed : Result Head Fault → ℕ → ℕ → List SymbolRow → Result Headed Halt
+headed (Ok h) end n rows = Ok (record { symbol = h.symbol; place = h.place; end = end; symbols = n; rows = rows })
+headed (Err f) end n rows = Err (halt f n rows)
 
 -- the symbol that is due
 abbrev pub head : List ℕ → Kind → Purpose → ℕ → ℕ → ℕ → List SymbolRow → Result Headed Halt

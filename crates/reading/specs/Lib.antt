@@ -1,7 +1,11 @@
 pub mod Limits
 pub mod States
 pub mod Entering
+pub mod Slots
 pub mod Terms
+pub mod Marks
 pub mod Clauses
-pub mod Bindings
+pub mod Cursors
+pub mod Readers
 pub mod Fixed
+pub mod Bindings

@@ -3,9 +3,8 @@ use Rattle.std.specs.Prelude.{ℕ, ◌+◌, Bool, true, false, cond, ◌||◌, L
 use Rattle.logic.specs.declared.row.SymbolRow.{SymbolRow}
 use Rattle.tokens.specs.declared.fault.Fault.{Fault}
 use Rattle.tokens.specs.declared.fault.Fault.TheVariants.{Count}
-use Rattle.reading.specs.declared.cursor.Cursor.{Cursor}
-use Rattle.reading.specs.declared.cursor.Purpose.{Purpose}
-use Rattle.reading.specs.declared.cursor.Purpose.TheVariants.{Rule, Step, Binding}
+use Rattle.reading.specs.declared.purpose.Purpose.{Purpose}
+use Rattle.reading.specs.declared.purpose.Purpose.TheVariants.{Rule, Step, Binding}
 use Rattle.logic.specs.Limits as language
 use Rattle.reading.specs.Limits as limits
 
@@ -24,16 +23,8 @@ pub record Halt : Type 0 where
   pub symbols : ℕ
   pub rows : List SymbolRow
 
-abbrev pub state : Cursor → List ℕ → ℕ → List SymbolRow → State
-state a out n rows = record { purpose = a.purpose; pos = a.pos; count = a.count; out = out; symbols = n; rows = rows }
-
 abbrev pub halt : Fault → ℕ → List SymbolRow → Halt
 halt f n rows = record { fault = f; symbols = n; rows = rows }
-
--- what a reader of the code has done
-abbrev pub after : Result Cursor Fault → List ℕ → ℕ → List SymbolRow → Result State Halt
-after (Ok a) out n rows = Ok (state a out n rows)
-after (Err f) out n rows = Err (halt f n rows)
 
 -- one reading after another: the first refusal stands
 infixl 20 ◌>>=◌

@@ -1,5 +1,5 @@
 -- The words of a term.
-use Rattle.std.specs.Prelude.{ℕ, zero, suc, ◌+◌, ◌-◌, ◌<◌, ◌≤◌, Bool, false, cond, List, Ok, Err, Result, ◌==◌, ◌≢◌, slice_set}
+use Rattle.std.specs.Prelude.{ℕ, zero, suc, ◌+◌, ◌-◌, Bool, false, cond, List, Ok, Err, Result, ◌==◌, slice_set}
 use Rattle.logic.specs.Limits as limits
 use Rattle.logic.specs.Words.{symbol_word}
 use Rattle.logic.specs.declared.row.SymbolRow.{SymbolRow}
@@ -9,15 +9,9 @@ use Rattle.tokens.specs.declared.fault.Fault.{Fault}
 use Rattle.tokens.specs.declared.fault.Fault.TheVariants.{Due, Deep, ManyWords, ManyArguments}
 use Rattle.tokens.specs.Tokens.{Tok, opens, closes, equals, number, variable, word, lex}
 use Rattle.tokens.specs.Forms.{variable_form}
-use Rattle.reading.specs.declared.term.Slot.{Slot}
-use Rattle.reading.specs.declared.term.Slot.TheVariants.{Closed, Variable, Opened}
-use Rattle.reading.specs.declared.term.Group.{Group}
-use Rattle.reading.specs.States.{State, Halt, halt, state, ◌>>=◌, ◌then◌, from, moved, written, full}
+use Rattle.reading.specs.Slots.{Slot, Closed, Variable, Opened}
+use Rattle.reading.specs.States.{State, Halt, halt, ◌>>=◌, ◌then◌, from, moved, written, full}
 use Rattle.reading.specs.Entering.{Headed, head, settle}
-
-abbrev pub after_group : Result Group Fault → List ℕ → ℕ → List SymbolRow → Result (ℕ × State) Halt
-after_group (Ok g) out n rows = Ok (g.given, state g.at out n rows)
-after_group (Err f) out n rows = Err (halt f n rows)
 
 -- depth, words and number of an argument, in this order
 abbrev pub fitting : {A : Type 0} → Bool → Bool → Bool → ℕ → Result A Fault → Result A Fault
@@ -34,12 +28,6 @@ slot_at deep words more at end (word r) = Err (Due at)
 
 abbrev pub slot : List ℕ → Bool → Bool → Bool → ℕ → Result Slot Fault
 slot bs deep words more p = lex bs p then λ l. slot_at deep words more l.place l.end l.tok
-
--- a slot lies behind p and within the line; an argument is not too deep and is one of four
-abbrev pub SlotOn : ℕ → ℕ → ℕ → ℕ → Slot → Type 0
-SlotOn len p room given (Closed e) = (p < e) × (e ≤ len)
-SlotOn len p room given (Variable i e) = (p < e) × (e ≤ len) × (0 < room) × (given ≢ limits.arguments)
-SlotOn len p room given (Opened e) = (p < e) × (e ≤ len) × (0 < room) × (given ≢ limits.arguments)
 
 -- what a slot leads to: `nested` reads a term behind its bracket, `rest` the arguments after this one
 abbrev pub turn : (State → Result State Halt) → (State → Result (ℕ × State) Halt) → ℕ → State → Slot → Result (ℕ × State) Halt

@@ -1,18 +1,12 @@
 //! Bindings.
-ghost use Rattle.std.specs.Prelude.{◌≡◌, ◌+◌, ◌-◌, ◌<◌, ◌≤◌, length, take, IfOk, OnOk, ◌==◌};
-ghost use Rattle.logic.specs.Limits.{symbols as most_symbols};
-ghost use Rattle.reading.specs.declared.cursor.Purpose.TheVariants.{Binding};
+ghost use Rattle.std.specs.Prelude.{◌≡◌, ◌+◌, ◌-◌, ◌<◌, ◌≤◌, take, IfOk, OnOk};
 ghost use Rattle.reading.specs.Limits.{bindings as most_bindings, binding_words};
-ghost use Rattle.reading.specs.States.{state};
-ghost use Rattle.reading.specs.Clauses.{MarkOn, IsClosed};
-ghost use Rattle.reading.specs.Bindings.{variable_at, binding_mark, after_binding, binding as bindingOf, InOrder, Filled, held, pushed, after_bindings, binding_list, bindings_at};
+ghost use Rattle.reading.specs.Bindings.{binding as binding_of, InOrder, Filled, held, pushed, binding_list, bindings_at};
 
 use crate::clause::ROOM;
-use crate::cursor::{BINDING_WORDS, Cursor, Purpose, check_count};
-use crate::mark::{Mark, close, open};
-use crate::term::term;
-use logic::SymbolRow;
-use tokens::{Fault, Token, next, variable};
+use crate::purpose::{BINDING_WORDS, Purpose};
+use crate::reader::Reader;
+use tokens::Fault;
 
 /// How many bindings a list may have.
 pub const BINDINGS: usize = 64;
@@ -29,139 +23,67 @@ pub struct Bindings {
     pub count: usize,
 }
 
-/// A variable and the place behind it.
-#[derive(Clone, Copy)]
-pub struct Found {
-    pub variable: u32,
-    pub end: usize,
-}
-
-/// A variable that is bound, and where reading stands behind its binding.
-#[derive(Clone, Copy)]
-pub struct Pair {
-    pub variable: u32,
-    pub at: Cursor,
-}
-
-/// The variable that is due.
-fn read_variable(line: &[u8], from: usize) -> Result<Found, Fault>
-    ensures is { result ≡ variable_at line.now from }
-    ensures on { IfOk result (λ v. (from < v.end) × (v.end ≤ length line.now)) }
-{
-    let t = next(line, from)?;
-    match t.token {
-        Token::Variable(run) => {
-            let i = variable(run, t.place)?;
-            Ok(Found {
-                variable: i,
-                end: t.end,
-            })
-        }
-        _ => Err(Fault::Due(t.place)),
+impl Bindings {
+    /// One binding more, whose term ends at `end`.
+    fn push(&mut self, variable: u32, end: usize)
+        requires { (self.old.count < most_bindings) × (end ≤ binding_words) }
+        ensures { self.new ≡ pushed self.old variable end }
+    {
+        self.variables[self.count] = variable;
+        self.places[self.count + 1] = end as u32;
+        self.count += 1;
     }
 }
 
-/// Where one more binding or the closing bracket is due; `given` bindings are read already.
-fn read_mark(line: &[u8], from: usize, given: usize) -> Result<Mark, Fault>
-    ensures is { result ≡ binding_mark line.now (given == most_bindings) from }
-    ensures on { IfOk result (λ m. MarkOn (length line.now) from m × (given ≡ most_bindings → IsClosed m)) }
-{
-    let t = next(line, from)?;
-    match t.token {
-        Token::Close => Ok(Mark::Closed(t.end)),
-        Token::Open => {
-            if given == BINDINGS {
-                return Err(Fault::ManyBindings(t.place));
+impl Reader<'_, '_> {
+    ghost use Rattle.std.specs.Prelude.{length};
+    ghost use Rattle.reading.specs.declared.purpose.Purpose.TheVariants.{Binding};
+    ghost use Rattle.reading.specs.Readers.{seen, Goes, Keeps, after_binding, after_bindings};
+
+    /// A binding behind its opening bracket: its variable. The words of its term go to `terms`.
+    #[tactic(auto, unfolding(crate::specs::Bindings::binding))]
+    fn binding(&mut self, terms: &mut [u32]) -> Result<u32, Fault>
+        requires { (self.old.purpose ≡ Binding) × (self.old.count ≤ binding_words) }
+        ensures is { after_binding result self.old.count self.new terms.new ≡ binding_of self.old.at.line.now (seen self.old terms.old) }
+        ensures on { IfOk result (λ v. (self.old.count ≤ self.new.count) × (self.new.count ≤ binding_words) × (take self.old.count terms.new ≡ take self.old.count terms.old)) }
+        ensures goes { Goes self.old self.new }
+    {
+        let variable = self.at.variable()?;
+        self.term(terms, ROOM)?;
+        self.at.close()?;
+        Ok(variable)
+    }
+
+    /// The bindings up to the closing bracket, behind those that are read already.
+    fn binding_list(&mut self, bindings: &mut Bindings) -> Result<(), Fault>
+        requires purpose { self.old.purpose ≡ Binding }
+        requires filled { Filled bindings.old self.old.count }
+        ensures is { after_bindings result bindings.new self.new ≡ binding_list self.old.at.line.now (most_bindings + 1 - bindings.old.count) (held bindings.old) (seen self.old bindings.old.terms) }
+        ensures ordered { OnOk result (InOrder bindings.new) }
+        ensures goes { Goes self.old self.new }
+    {
+        while let Some(place) = self.at.another()? {
+            if bindings.count == BINDINGS {
+                return Err(Fault::ManyBindings(place));
             }
-            Ok(Mark::Opened(t.end))
+            let variable = self.binding(&mut bindings.terms)?;
+            bindings.push(variable, self.count);
         }
-        _ => Err(Fault::Due(t.place)),
+        Ok(())
     }
-}
 
-/// A binding behind its opening bracket: the words of its term go to `terms`.
-fn binding(
-    line: &[u8],
-    rows: &mut [SymbolRow],
-    symbols: &mut usize,
-    terms: &mut [u32],
-    from: Cursor,
-) -> Result<Pair, Fault>
-    requires purpose { from.purpose ≡ Binding }
-    requires few { from.count ≤ binding_words }
-    requires within { (from.count ≤ from.pos) × (symbols.old ≤ length rows.old) × (symbols.old ≤ most_symbols) }
-    ensures is { after_binding result from.count terms.new symbols.new rows.new ≡ bindingOf line.now (state from terms.old symbols.old rows.old) }
-    ensures on { IfOk result (λ p. (p.at.count ≤ p.at.pos) × (p.at.purpose ≡ Binding) × (from.count ≤ p.at.count) × (p.at.count ≤ binding_words) × (take from.count terms.new ≡ take from.count terms.old)) }
-    ensures counted { (symbols.new ≤ length rows.old) × (symbols.new ≤ most_symbols) × (symbols.old ≤ symbols.new) }
-{
-    let found = read_variable(line, from.pos)?;
-    let inner = Cursor {
-        pos: found.end,
-        ..from
-    };
-    let last = term(line, rows, symbols, terms, inner, ROOM)?;
-    let end = close(line, last.pos)?;
-    Ok(Pair {
-        variable: found.variable,
-        at: Cursor { pos: end, ..last },
-    })
-}
-
-/// One binding more, whose term ends at `end`.
-fn push(bindings: &mut Bindings, variable: u32, end: usize)
-    requires { (bindings.old.count < most_bindings) × (end ≤ binding_words) }
-    ensures { bindings.new ≡ pushed bindings.old variable end }
-{
-    let n = bindings.count;
-    bindings.variables[n] = variable;
-    bindings.places[n + 1] = end as u32;
-    bindings.count = n + 1;
-}
-
-/// The bindings up to the closing bracket; those that `bindings` has are read already.
-fn binding_list(
-    line: &[u8],
-    rows: &mut [SymbolRow],
-    symbols: &mut usize,
-    bindings: &mut Bindings,
-    from: Cursor,
-) -> Result<usize, Fault>
-    requires purpose { from.purpose ≡ Binding }
-    requires filled { Filled bindings.old from.count }
-    requires within { (from.count ≤ from.pos) × (symbols.old ≤ length rows.old) × (symbols.old ≤ most_symbols) }
-    ensures is { after_bindings result bindings.new symbols.new rows.new ≡ binding_list line.now (most_bindings + 1 - bindings.old.count) (held bindings.old) (state from bindings.old.terms symbols.old rows.old) }
-    ensures ordered { OnOk result (InOrder bindings.new) }
-{
-    match read_mark(line, from.pos, bindings.count)? {
-        Mark::Closed(end) => Ok(end),
-        Mark::Opened(end) => {
-            let inner = Cursor { pos: end, ..from };
-            let pair = binding(line, rows, symbols, &mut bindings.terms, inner)?;
-            push(bindings, pair.variable, pair.at.count);
-            binding_list(line, rows, symbols, bindings, pair.at)
-        }
+    /// The bracketed list of bindings that is due.
+    pub fn bindings(&mut self, bindings: &mut Bindings) -> Result<(), Fault>
+        ensures is { after_bindings result bindings.new self.new ≡ bindings_at self.old.at.line.now self.old.at.pos self.old.symbols self.old.rows.now }
+        ensures ordered { OnOk result (InOrder bindings.new) }
+        ensures line { self.new.at.line ≡ self.old.at.line }
+        ensures keeps { Keeps self.old self.new }
+    {
+        self.purpose = Purpose::Binding;
+        self.count = 0;
+        self.at.open()?;
+        bindings.places[0] = 0;
+        bindings.count = 0;
+        self.binding_list(bindings)
     }
-}
-
-/// The bracketed list of bindings that is due at `from`.
-pub fn read_bindings(
-    line: &[u8],
-    rows: &mut [SymbolRow],
-    symbols: &mut usize,
-    bindings: &mut Bindings,
-    from: usize,
-) -> Result<usize, Fault>
-    ensures is { after_bindings result bindings.new symbols.new rows.new ≡ bindings_at line.now from symbols.old rows.old }
-    ensures ordered { OnOk result (InOrder bindings.new) }
-{
-    check_count(rows, *symbols)?;
-    let inner = open(line, from)?;
-    bindings.places[0] = 0;
-    bindings.count = 0;
-    let start = Cursor {
-        purpose: Purpose::Binding,
-        pos: inner,
-        count: 0,
-    };
-    binding_list(line, rows, symbols, bindings, start)
 }

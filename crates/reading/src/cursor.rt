@@ -1,64 +1,90 @@
-//! Where reading stands.
-ghost use Rattle.std.specs.Prelude.{◌≡◌, slice_set};
-ghost use Rattle.reading.specs.States.{enters as entersOf, full as full_of, count_checked};
+//! Tokens that are due, read one after another.
+ghost use Rattle.std.specs.Prelude.{◌≡◌, IfOk};
+ghost use Rattle.tokens.specs.Tokens.{lex, seen, tok};
+ghost use Rattle.reading.specs.Clauses.{opening, closing, wording};
+ghost use Rattle.reading.specs.Bindings.{variable_at};
+ghost use Rattle.reading.specs.Cursors.{Onward, reached, found, awaited, bracketed, bracket_at};
 
-use logic::{SYMBOLS, SymbolRow};
-use tokens::Fault;
+use tokens::{Fault, Lexeme, Token, variable};
 
-/// How many words the terms of bindings may have together.
-pub const BINDING_WORDS: usize = 512;
-
-/// What is read: it decides whether new names are entered, and how many words there may be.
+/// A line, and the place in it where reading stands.
 #[derive(Clone, Copy)]
-pub enum Purpose {
-    /// The clause of a rule, while the book is open.
-    Rule,
-    /// The clause of a step.
-    Step,
-    /// The terms of a step's bindings.
-    Binding,
-}
-
-/// What is read, the place in the line, and how many words there are so far.
-#[derive(Clone, Copy)]
-pub struct Cursor {
-    pub purpose: Purpose,
+pub struct Cursor<'a> {
+    pub line: &'a [u8],
     pub pos: usize,
-    pub count: usize,
 }
 
-/// Whether new names are entered.
-pub fn enters(purpose: Purpose) -> bool
-    ensures { result ≡ entersOf purpose }
-{
-    matches!(purpose, Purpose::Rule)
-}
-
-/// Whether no word more may come.
-pub fn full(purpose: Purpose, count: usize) -> bool
-    ensures { result ≡ full_of purpose count }
-{
-    match purpose {
-        Purpose::Rule | Purpose::Step => false,
-        Purpose::Binding => count >= BINDING_WORDS,
+impl<'a> Cursor<'a> {
+    /// The next token; reading goes on behind it.
+    pub fn next(&mut self) -> Result<Lexeme<'a>, Fault>
+        ensures is { seen result ≡ lex self.old.line.now self.old.pos }
+        ensures behind { IfOk result (λ l. self.new.pos ≡ l.end) }
+        ensures on { Onward self.old self.new result }
+    {
+        let lexeme = tokens::next(self.line, self.pos)?;
+        self.pos = lexeme.end;
+        Ok(lexeme)
     }
-}
 
-/// Writes a word, if it has room.
-pub fn put(out: &mut [u32], at: usize, word: u32)
-    ensures { out.new ≡ slice_set out.old at word }
-{
-    if at < out.len() {
-        out[at] = word;
+    /// Reads the token that is due.
+    fn expect(&mut self, due: Token<'_>) -> Result<(), Fault>
+        ensures is { reached result self.new ≡ awaited (tok due.entry) self.old.line.now self.old.pos }
+        ensures on { Onward self.old self.new result }
+    {
+        let lexeme = self.next()?;
+        if lexeme.token == due {
+            Ok(())
+        } else {
+            Err(Fault::Due(lexeme.place))
+        }
     }
-}
 
-/// Refuses a count of symbols that exceeds their store, of which at most 256 rows are used.
-pub fn check_count(rows: &[SymbolRow], symbols: usize) -> Result<(), Fault>
-    ensures { result ≡ count_checked symbols rows.now }
-{
-    if symbols > rows.len() || symbols > SYMBOLS {
-        return Err(Fault::Count);
+    /// Reads the opening bracket that is due.
+    pub fn open(&mut self) -> Result<(), Fault>
+        ensures is { reached result self.new ≡ opening self.old.line.now self.old.pos }
+        ensures on { Onward self.old self.new result }
+    {
+        self.expect(Token::Open)
     }
-    Ok(())
+
+    /// Reads the closing bracket that is due.
+    pub fn close(&mut self) -> Result<(), Fault>
+        ensures is { reached result self.new ≡ closing self.old.line.now self.old.pos }
+        ensures on { Onward self.old self.new result }
+    {
+        self.expect(Token::Close)
+    }
+
+    /// Reads a certain word that is due.
+    pub fn word(&mut self, due: &[u8]) -> Result<(), Fault>
+        ensures is { reached result self.new ≡ wording due.now self.old.line.now self.old.pos }
+        ensures on { Onward self.old self.new result }
+    {
+        self.expect(Token::Name(due))
+    }
+
+    /// The place of the bracket with which one more of a list opens, or none where the list's closing bracket stands.
+    pub fn another(&mut self) -> Result<Option<usize>, Fault>
+        ensures is { bracketed result self.new ≡ bracket_at self.old.line.now self.old.pos }
+        ensures on { Onward self.old self.new result }
+    {
+        let lexeme = self.next()?;
+        match lexeme.token {
+            Token::Open => Ok(Some(lexeme.place)),
+            Token::Close => Ok(None),
+            _ => Err(Fault::Due(lexeme.place)),
+        }
+    }
+
+    /// The variable that is due.
+    pub fn variable(&mut self) -> Result<u32, Fault>
+        ensures is { found result self.new ≡ variable_at self.old.line.now self.old.pos }
+        ensures on { Onward self.old self.new result }
+    {
+        let lexeme = self.next()?;
+        match lexeme.token {
+            Token::Variable(run) => variable(run, lexeme.place),
+            _ => Err(Fault::Due(lexeme.place)),
+        }
+    }
 }

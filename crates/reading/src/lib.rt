@@ -4,11 +4,13 @@
 mod bindings;
 mod clause;
 mod cursor;
-mod mark;
+mod purpose;
+mod reader;
 mod symbols;
 mod term;
 
-pub use bindings::{BINDINGS, Bindings, PLACES, read_bindings};
-pub use clause::read_clause;
-pub use cursor::{BINDING_WORDS, Cursor, Purpose, check_count};
-pub use mark::{close, open, word};
+pub use bindings::{BINDINGS, Bindings, PLACES};
+pub use cursor::Cursor;
+pub use purpose::{BINDING_WORDS, Purpose};
+pub use reader::Reader;
+pub use symbols::check_count;

@@ -12,11 +12,11 @@ use Rattle.logic.specs.declared.row.Kind.TheVariants.{Predicate}
 use Rattle.tokens.specs.declared.fault.Fault.TheVariants.{Due, ManyLiterals}
 use Rattle.tokens.specs.Forms.{reserved}
 use Rattle.tokens.specs.Tokens.{Tok, opens, closes, equals, word, Lexed, lex}
-use Rattle.reading.specs.declared.cursor.Purpose.{Purpose}
-use Rattle.reading.specs.declared.term.Slot.{Slot}
-use Rattle.reading.specs.declared.term.Slot.TheVariants.{Closed, Variable, Opened}
-use Rattle.reading.specs.declared.mark.Mark.{Mark}
-use Rattle.reading.specs.declared.mark.Mark.TheVariants.{Closed as Ends, Opened as Begins}
+use Rattle.reading.specs.declared.purpose.Purpose.{Purpose}
+use Rattle.reading.specs.Slots.{Slot}
+use Rattle.reading.specs.Slots.{Closed, Variable, Opened}
+use Rattle.reading.specs.Marks.{Mark}
+use Rattle.reading.specs.Marks.{Closed as Ends, Opened as Begins}
 use Rattle.reading.specs.States.{State, Halt, ◌>>=◌, ◌then◌, lift, from, moved, written, enters, full}
 use Rattle.reading.specs.Terms.{slot, turn, nest, application, term_turn, term, body}
 use Rattle.reading.specs.Clauses.{opened, opening, closed, closing, worded, wording, marked, literal_mark, is_equals, is_not, mark_turn, sides, atom, negated, literal, literal_list, clause}

@@ -6,8 +6,8 @@ use Rattle.logic.specs.Words.{term_words, terms_words, atom_words, literal_words
 use Rattle.logic.specs.declared.row.SymbolRow.{SymbolRow}
 use Rattle.logic.specs.declared.row.Kind.TheVariants.{Predicate}
 use Rattle.tokens.specs.Tokens.{Tok, opens, closes, equals, word, Lexed, lex}
-use Rattle.reading.specs.declared.mark.Mark.{Mark}
-use Rattle.reading.specs.declared.mark.Mark.TheVariants.{Closed, Opened}
+use Rattle.reading.specs.Marks.{Mark}
+use Rattle.reading.specs.Marks.{Closed, Opened}
 use Rattle.reading.specs.States.{State, from, moved, written, enters}
 use Rattle.reading.specs.Terms.{application, term}
 use Rattle.reading.specs.Clauses.{opening, closing, wording, literal_mark, is_equals, is_not, mark_turn, sides, atom, negated, literal, literal_list, clause}

@@ -11,7 +11,7 @@ use Rattle.logic.specs.Directory.{place_of_name}
 use Rattle.tokens.specs.declared.fault.Fault.TheVariants.{Due, Long, Form, ManyWords, OtherKind, OtherArity, Unknown, ManySymbols}
 use Rattle.tokens.specs.Tokens.{Tok, opens, closes, equals, number, variable, word, Lexed, lex}
 use Rattle.tokens.specs.Forms.{decimal, value, in_form, reserved, name_in_form, symbol_form}
-use Rattle.reading.specs.declared.cursor.Purpose.{Purpose}
+use Rattle.reading.specs.declared.purpose.Purpose.{Purpose}
 use Rattle.reading.specs.States.{halt, lift, enters, full}
 use Rattle.reading.specs.Entering.{new_row, with_arity, Met, known, meet, room_for_word, Headed, head, settle}
 use Rattle.spelling.specs.Grammar.{Numeral, SymbolName}

@@ -11,7 +11,7 @@ use Rattle.logic.specs.Directory.{place_of_name}
 use Rattle.tokens.specs.declared.fault.Fault.TheVariants.{Due, Long, Form, OtherKind, OtherArity, Unknown, ManySymbols}
 use Rattle.tokens.specs.Tokens.{word}
 use Rattle.tokens.specs.Forms.{decimal, value, in_form, reserved, name_in_form, symbol_form}
-use Rattle.reading.specs.declared.cursor.Purpose.{Purpose}
+use Rattle.reading.specs.declared.purpose.Purpose.{Purpose}
 use Rattle.reading.specs.States.{halt, enters}
 use Rattle.reading.specs.Entering.{new_row, with_arity, known, meet, settle}
 use Rattle.spelling.specs.Appearance.{PlainRow, Appear, known as is_Known, next}

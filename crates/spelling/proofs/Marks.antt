@@ -5,8 +5,8 @@ use Rattle.std.proofs.lemmas.Slice.Eq.{bytes_eq-Decides}
 use Rattle.tokens.specs.declared.fault.Fault.{Fault}
 use Rattle.tokens.specs.declared.fault.Fault.TheVariants.{Due, ManyLiterals}
 use Rattle.tokens.specs.Tokens.{Tok, opens, closes, equals, number, variable, word, Lexed, lex}
-use Rattle.reading.specs.declared.mark.Mark.{Mark}
-use Rattle.reading.specs.declared.mark.Mark.TheVariants.{Closed, Opened}
+use Rattle.reading.specs.Marks.{Mark}
+use Rattle.reading.specs.Marks.{Closed, Opened}
 use Rattle.reading.specs.States.{State, from}
 use Rattle.reading.specs.Clauses.{opened, opening, closed, closing, worded, wording, marked, literal_mark, is_equals, is_not}
 use Rattle.spelling.proofs.Answers.{no_ok, ok_same, then_ok, lift_ok, cond_ok, pick_ok}

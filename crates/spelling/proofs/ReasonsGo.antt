@@ -9,9 +9,9 @@ use Rattle.tokens.specs.Tokens.{Tok, opens, closes, number, word, Lexed, lex}
 use Rattle.tokens.specs.Forms.{number_form, keyword_form, largest_number}
 use Rattle.reading.specs.States.{◌then◌}
 use Rattle.reading.specs.Clauses.{opening, opened}
-use Rattle.lines.specs.declared.position.Turn.{Turn}
-use Rattle.lines.specs.declared.position.Turn.TheVariants.{Closed, Given}
-use Rattle.lines.specs.declared.justification.Few.{Few}
+use Rattle.lines.specs.Turns.{Turn}
+use Rattle.lines.specs.Turns.{Closed, Given}
+use Rattle.lines.specs.Justifications.{Few}
 use Rattle.lines.specs.declared.shape.Shape.{Shape}
 use Rattle.lines.specs.Limits as lines
 use Rattle.lines.specs.Numbers.{number_at}

@@ -9,10 +9,10 @@ use Rattle.logic.specs.declared.row.SymbolRow.{SymbolRow}
 use Rattle.tokens.specs.declared.fault.Fault.TheVariants.{Form, Count}
 use Rattle.tokens.specs.Tokens.{Tok, opens, closes, number, word, Lexed, lex}
 use Rattle.tokens.specs.Forms.{number_form, largest_number}
-use Rattle.reading.specs.declared.cursor.Purpose.TheVariants.{Rule}
+use Rattle.reading.specs.declared.purpose.Purpose.TheVariants.{Rule}
 use Rattle.reading.specs.States.{State, Halt, halt, ◌>>=◌, ◌then◌, lift, from, exceeds}
 use Rattle.reading.specs.Clauses.{opening, closing, wording, clause, clause_from}
-use Rattle.lines.specs.declared.number.Numbered.{Numbered}
+use Rattle.lines.specs.Numbers.{Numbered}
 use Rattle.lines.specs.Numbers.{number_at, step_number, ended, line_end}
 use Rattle.lines.specs.Rules.{Ruled, rule_line}
 use Rattle.spelling.specs.Appearance.{clause_symbols, Appear}

@@ -10,11 +10,11 @@ use Rattle.tokens.specs.declared.fault.Fault.{Fault}
 use Rattle.tokens.specs.declared.fault.Fault.TheVariants.{NoToken, Early, Due, Long, Form, Deep, ManyLiterals, ManyNumbers, ManyBindings, ManyWords, OtherKind, OtherArity, Unknown, ManyArguments, ManySymbols, NoRule, Count}
 use Rattle.tokens.specs.Tokens.{Tok, opens, closes, equals, number, variable, word, Lexed, lex}
 use Rattle.tokens.specs.Forms.{number_form, largest_number}
-use Rattle.reading.specs.declared.cursor.Purpose.{Purpose}
-use Rattle.reading.specs.declared.cursor.Purpose.TheVariants.{Rule}
+use Rattle.reading.specs.declared.purpose.Purpose.{Purpose}
+use Rattle.reading.specs.declared.purpose.Purpose.TheVariants.{Rule}
 use Rattle.reading.specs.States.{State, halt, lift, from, exceeds, count_checked}
 use Rattle.reading.specs.Clauses.{opening, closing, wording, clause, clause_from}
-use Rattle.lines.specs.declared.number.Numbered.{Numbered}
+use Rattle.lines.specs.Numbers.{Numbered}
 use Rattle.lines.specs.Numbers.{number_at, step_number, ended, line_end}
 use Rattle.lines.specs.Rules.{Ruled, rule_line}
 use Rattle.spelling.specs.Appearance.{clause_symbols, Appear}

@@ -9,12 +9,12 @@ use Rattle.tokens.specs.declared.byte.Class.TheVariants.{Space}
 use Rattle.tokens.specs.declared.fault.Fault.TheVariants.{Count}
 use Rattle.tokens.specs.Bytes.{within}
 use Rattle.tokens.specs.Tokens.{Tok, opens, closes, number, word, Lexed, lex}
-use Rattle.reading.specs.declared.cursor.Purpose.TheVariants.{Step}
+use Rattle.reading.specs.declared.purpose.Purpose.TheVariants.{Step}
 use Rattle.reading.specs.States.{State, Halt, halt, ◌>>=◌, ◌then◌, lift, from, exceeds}
 use Rattle.reading.specs.Clauses.{opening, closing, wording, clause, clause_from}
 use Rattle.reading.specs.Bindings.{Bound, Bounds}
-use Rattle.lines.specs.declared.number.Numbered.{Numbered}
-use Rattle.lines.specs.declared.justification.Few.{Few}
+use Rattle.lines.specs.Numbers.{Numbered}
+use Rattle.lines.specs.Justifications.{Few}
 use Rattle.lines.specs.Numbers.{step_number, line_end}
 use Rattle.lines.specs.Positions.{position_part}
 use Rattle.lines.specs.Justifications.{Table, few_at, asked, Named, keyword_at, Citation, cited_at, bindings_part, Justified, justification_at}

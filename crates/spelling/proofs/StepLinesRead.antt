@@ -5,13 +5,13 @@ use Rattle.logic.specs.Words.{clause_words}
 use Rattle.logic.specs.declared.row.SymbolRow.{SymbolRow}
 use Rattle.tokens.specs.declared.fault.Fault.TheVariants.{Count}
 use Rattle.tokens.specs.Tokens.{Tok, opens, closes, number, word, Lexed, lex}
-use Rattle.reading.specs.declared.cursor.Purpose.TheVariants.{Step}
+use Rattle.reading.specs.declared.purpose.Purpose.TheVariants.{Step}
 use Rattle.reading.specs.States.{State, halt, lift, from, exceeds}
 use Rattle.reading.specs.Clauses.{opening, closing, wording, clause, clause_from}
 use Rattle.reading.specs.Bindings.{Bound, Bounds}
 use Rattle.reading.proofs.Keeping.{Safe}
 use Rattle.reading.proofs.Sealed.{Halted, BoundSealed, bindings_sealed, settle_same}
-use Rattle.lines.specs.declared.number.Numbered.{Numbered}
+use Rattle.lines.specs.Numbers.{Numbered}
 use Rattle.lines.specs.Numbers.{step_number, line_end}
 use Rattle.lines.specs.Positions.{position_part}
 use Rattle.lines.specs.Justifications.{Table, few_at, asked, Named, keyword_at, Citation, cited_at, bindings_part, Justified, justification_at}

@@ -9,11 +9,11 @@ use Rattle.logic.specs.Words.{term_words}
 use Rattle.logic.specs.declared.row.SymbolRow.{SymbolRow}
 use Rattle.tokens.specs.declared.fault.Fault.TheVariants.{ManyBindings, Count}
 use Rattle.tokens.specs.Tokens.{Tok, opens, closes, variable, Lexed, lex}
-use Rattle.reading.specs.declared.cursor.Purpose.{Purpose}
-use Rattle.reading.specs.declared.cursor.Purpose.TheVariants.{Binding as for-bindings}
-use Rattle.reading.specs.declared.mark.Mark.{Mark}
-use Rattle.reading.specs.declared.mark.Mark.TheVariants.{Closed, Opened}
-use Rattle.reading.specs.declared.bindings.Found.{Found}
+use Rattle.reading.specs.declared.purpose.Purpose.{Purpose}
+use Rattle.reading.specs.declared.purpose.Purpose.TheVariants.{Binding as for-bindings}
+use Rattle.reading.specs.Marks.{Mark}
+use Rattle.reading.specs.Marks.{Closed, Opened}
+use Rattle.reading.specs.Bindings.{Found}
 use Rattle.reading.specs.States.{State, Halt, halt, ◌>>=◌, ◌then◌, lift, from, moved, exceeds}
 use Rattle.reading.specs.Terms.{term}
 use Rattle.reading.specs.Clauses.{opening, closing, marked}

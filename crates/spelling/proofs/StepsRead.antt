@@ -10,10 +10,10 @@ use Rattle.logic.specs.declared.row.Kind.{Kind}
 use Rattle.tokens.specs.declared.fault.Fault.{Fault}
 use Rattle.tokens.specs.declared.fault.Fault.TheVariants.{ManyBindings, Count}
 use Rattle.tokens.specs.Tokens.{Tok, opens, closes, equals, number, variable, word, lex}
-use Rattle.reading.specs.declared.cursor.Purpose.TheVariants.{Binding as for-bindings}
-use Rattle.reading.specs.declared.mark.Mark.{Mark}
-use Rattle.reading.specs.declared.mark.Mark.TheVariants.{Closed, Opened}
-use Rattle.reading.specs.declared.bindings.Found.{Found}
+use Rattle.reading.specs.declared.purpose.Purpose.TheVariants.{Binding as for-bindings}
+use Rattle.reading.specs.Marks.{Mark}
+use Rattle.reading.specs.Marks.{Closed, Opened}
+use Rattle.reading.specs.Bindings.{Found}
 use Rattle.reading.specs.States.{State, Halt, halt, ◌>>=◌, lift, from, moved, enters, exceeds}
 use Rattle.reading.specs.Entering.{Headed, head, settle}
 use Rattle.reading.specs.Terms.{headed_state, with_rows, term}
@@ -189,7 +189,7 @@ module _ (bs : List ℕ) (n : ℕ) (rows : List SymbolRow) (settled : Settled n 
 
   few_after : (a b : State) → a.purpose ≡ for-bindings → a.count ≤ 512 → term bs 32 a ≡ Ok b → (b.purpose ≡ for-bindings) × (b.count ≤ 512)
   few_after a b p few e =
-      let k = term_kept 0 [] bs 32 a (record { purpose = b.purpose; pos = b.pos; count = b.count }) b.out b.symbols b.rows (p, omega arith, few, refl) (sym e) in
+      let k = term_kept 0 [] bs 32 a b (p, omega arith, few, refl) (sym e) in
       (k.0, k.2)
 
   -- the binding, once the tokens behind it are known

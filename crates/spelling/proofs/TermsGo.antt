@@ -11,9 +11,9 @@ use Rattle.logic.specs.declared.row.Kind.TheVariants.{Function}
 use Rattle.tokens.specs.declared.fault.Fault.TheVariants.{ManyWords}
 use Rattle.tokens.specs.Tokens.{Tok, opens, closes, variable, word, Lexed, lex}
 use Rattle.tokens.specs.Forms.{variable_form, symbol_form}
-use Rattle.reading.specs.declared.cursor.Purpose.{Purpose}
-use Rattle.reading.specs.declared.term.Slot.{Slot}
-use Rattle.reading.specs.declared.term.Slot.TheVariants.{Closed, Variable, Opened}
+use Rattle.reading.specs.declared.purpose.Purpose.{Purpose}
+use Rattle.reading.specs.Slots.{Slot}
+use Rattle.reading.specs.Slots.{Closed, Variable, Opened}
 use Rattle.reading.specs.States.{State, Halt, ◌>>=◌, ◌then◌, lift, from, moved, written, enters, full}
 use Rattle.reading.specs.Entering.{Met, meet, room_for_word, Headed, head, settle}
 use Rattle.reading.specs.Terms.{slot_at, slot, turn, args, body, nest, headed_state, with_rows}

@@ -9,8 +9,8 @@ use Rattle.logic.specs.declared.row.Kind.TheVariants.{Function}
 use Rattle.tokens.specs.declared.fault.Fault.TheVariants.{Deep, ManyWords, ManyArguments}
 use Rattle.tokens.specs.Tokens.{Tok, opens, closes, equals, number, variable, word, Lexed, lex}
 use Rattle.tokens.specs.Forms.{variable_form}
-use Rattle.reading.specs.declared.term.Slot.{Slot}
-use Rattle.reading.specs.declared.term.Slot.TheVariants.{Closed, Variable, Opened}
+use Rattle.reading.specs.Slots.{Slot}
+use Rattle.reading.specs.Slots.{Closed, Variable, Opened}
 use Rattle.reading.specs.States.{State, Halt, from, moved, written, enters, full}
 use Rattle.reading.specs.Entering.{Headed, head, settle, new_row}
 use Rattle.reading.specs.Terms.{fitting, slot_at, slot, turn, args, body, nest, headed_state, with_rows}

@@ -8,8 +8,8 @@ use Rattle.logic.specs.declared.row.SymbolRow.{SymbolRow}
 use Rattle.logic.specs.declared.row.Kind.{Kind}
 use Rattle.logic.specs.declared.row.Kind.TheVariants.{Function}
 use Rattle.tokens.specs.Tokens.{Tok, opens, closes, variable, word}
-use Rattle.reading.specs.declared.term.Slot.{Slot}
-use Rattle.reading.specs.declared.term.Slot.TheVariants.{Closed, Variable, Opened}
+use Rattle.reading.specs.Slots.{Slot}
+use Rattle.reading.specs.Slots.{Closed, Variable, Opened}
 use Rattle.reading.specs.States.{State, from, moved, written, enters, full}
 use Rattle.reading.specs.Terms.{slot, turn, args, body, nest, application, headed_state, term_turn, term}
 use Rattle.reading.proofs.Turns.{args_suc, nest_application}

@@ -1,10 +1,11 @@
-use Rattle.lines.proofs.Covered.{rule_kept, rule_counted}
+use Rattle.std.proofs.Common.{rules}
+use Rattle.lines.specs.Rules.{rule_line}
+use Rattle.lines.proofs.Covered.{rule_kept}
 use Rattle.lines.proofs.rule.read_rule.Goals as goal
 
-pub returns : goal.returns
-returns c =
-    record {
-      is = c.read_text.ensures;
-      kept = rule_kept _ _ _ _ c.read_text.result c.read_text.new.out c.read_text.new.symbols c.read_text.new.rows c.read_text.ensures;
-      counted = rule_counted _ _ _ _ c.read_text.result c.read_text.new.out c.read_text.new.symbols c.read_text.new.rows c.read_text.ensures;
-    }
+pub returns-in_err-check_count-clause-is : goal.returns-in_err-check_count-clause-is
+unfolding rule_line
+returns-in_err-check_count-clause-is c = search rules
+
+pub returns-clause-kept : goal.returns-clause-kept
+returns-clause-kept c = rule_kept c.args.line.now c.args.out.now c.args.symbols.now c.args.rows.now c.read_text-read.result c.read_text-read.new.out c.read_text-read.new.reader.symbols _ (search rules)

@@ -1,0 +1,13 @@
+use Rattle.std.proofs.Common.{◌≡◌, ◌+◌, ◌-◌, ◌≤◌, [], take}
+use Rattle.lines.specs.Limits as limits
+use Rattle.lines.specs.Positions.{position_list, StaysInLine}
+use Rattle.lines.proofs.position.position_list.Given as goal
+
+abbrev pub invariant-loop-number : goal.invariant-loop-number
+invariant-loop-number l =
+    (l.given ≤ limits.position_numbers) × StaysInLine l.initial.at l.at
+    × (position_list l.initial.at.line.now (limits.position_numbers + 1 - l.given) (take l.given l.position) l.at.pos
+    ≡ position_list l.initial.at.line.now (limits.position_numbers + 1) [] l.initial.at.pos)
+
+abbrev pub decreases-loop-number : goal.decreases-loop-number
+decreases-loop-number l = limits.position_numbers + 1 - l.given
