@@ -2,7 +2,7 @@
 use Rattle.std.specs.Prelude.{◌≡◌, ℕ, ◌≤◌, List, [], length, slice_index, slice_index_or}
 use Rattle.logic.specs.Syntax.{Clause}
 use Rattle.inference.specs.Instantiate.{Binding}
-use Rattle.bench.specs.declared.shape.Shape.{Shape}
+use Rattle.lines.specs.declared.shape.Shape.{Shape}
 use Rattle.inference.specs.Answers.{Answer, allowed, fault}
 use Rattle.bench.specs.Faults.{RuleNumber}
 use Rattle.inference.specs.Law.{Follows}

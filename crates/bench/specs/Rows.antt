@@ -2,7 +2,7 @@
 use Rattle.std.specs.Prelude.{◌≡◌, ℕ, cond, List, [], ◌∷◌, Some, None, Option}
 use Rattle.std.specs.Option.{option_map}
 use Rattle.std.specs.Str.{bytes_eq}
-use Rattle.bench.specs.declared.shape.Shape.{Shape}
+use Rattle.lines.specs.declared.shape.Shape.{Shape}
 use Rattle.bench.specs.declared.fault.RuleFault.TheVariants.{NoRule}
 use Rattle.inference.specs.Answers.{Answer, fault}
 use Rattle.bench.specs.Faults.{rule_fault_number}

@@ -5,10 +5,9 @@ mod bench;
 mod fault;
 mod question;
 mod rule;
-mod shape;
 
-pub use bench::{Bench, Empty, Row, the_bench_keeps_its_law};
+pub use bench::{Bench, Empty, Row, the_bench_gives_its_shapes, the_bench_keeps_its_law};
 pub use fault::RuleFault;
+pub use lines::{Shape, Shapes};
 pub use question::Question;
 pub use rule::{Inference, Rule};
-pub use shape::Shape;

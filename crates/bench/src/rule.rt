@@ -1,12 +1,12 @@
 //! The interface of an inference rule.
-ghost use Rattle.std.specs.Prelude.{◌≡◌};
+ghost use Rattle.std.specs.Prelude.{◌≡◌, ℕ, Bool};
 ghost use Rattle.bench.specs.Faults.{answered};
 ghost use Rattle.bench.specs.Meanings.{Asked, Meaning, Sound};
 ghost use Rattle.bench.specs.Questions.{Shows};
 
 use crate::fault::RuleFault;
 use crate::question::Question;
-use crate::shape::Shape;
+use lines::Shape;
 
 /// What an inference rule means, and that it is sound.
 pub trait Inference {
@@ -27,11 +27,27 @@ pub trait Rule: Inference {
 
     const BINDINGS: bool;
 
+    ghost PREMISES: { ℕ };
+
+    ghost LITERALS: { ℕ };
+
+    ghost POSITION: { Bool };
+
+    ghost BINDINGS: { Bool };
+
     /// The constants that say what stands behind the keyword.
     fn shape(&self) -> Shape
-        ensures { result ≡ Self.Inference.means.shape };
+        ensures { result ≡ Self.Inference.means.shape }
+    {
+        Shape {
+            premises: Self::PREMISES,
+            literals: Self::LITERALS,
+            position: Self::POSITION,
+            bindings: Self::BINDINGS,
+        }
+    }
 
-    /// The keyword.
+    /// The keyword. Each impl gives its constant, since a proof cannot name one that is a reference: the address is not known.
     fn word(&self) -> &'static [u8]
         ensures { result.now ≡ Self.Inference.means.keyword };
 
@@ -39,4 +55,6 @@ pub trait Rule: Inference {
     /// gives to these.
     fn ask(&self, question: &Question<'_>) -> Result<(), RuleFault>
         ensures means { (s : Asked) → Shows s question.now → answered result ≡ Self.Inference.means.answers s };
+
+    ghost shaped: { record { premises = PREMISES; literals = LITERALS; position = POSITION; bindings = BINDINGS } ≡ Self.Inference.means.shape };
 }

@@ -1,5 +1,5 @@
 //! The inference rule `flip`: the sides of an equality are exchanged.
-ghost use Rattle.std.specs.Prelude.{◌<◌, ◌≤◌, length};
+ghost use Rattle.std.specs.Prelude.{◌<◌, ◌≤◌, length, refl, false};
 ghost use Rattle.rules.specs.Pieces.{Behind};
 ghost use Rattle.rules.specs.Sides.{flipped_words};
 ghost use Rattle.rules.specs.Six.{flip_rule};
@@ -7,7 +7,7 @@ ghost use Rattle.rules.specs.Laws.{flip_keeps};
 
 use crate::pieces::{after, after_both, ends};
 use crate::sides::{is_equation, right_side};
-use bench::{Inference, Question, Rule, RuleFault, Shape};
+use bench::{Inference, Question, Rule, RuleFault};
 use logic::{Span, literal_span};
 
 /// The inference rule `flip`.
@@ -48,14 +48,15 @@ impl Rule for Flip {
 
     const BINDINGS: bool = false;
 
-    fn shape(&self) -> Shape {
-        Shape {
-            premises: Self::PREMISES,
-            literals: Self::LITERALS,
-            position: Self::POSITION,
-            bindings: Self::BINDINGS,
-        }
-    }
+    ghost PREMISES = { 1 };
+
+    ghost LITERALS = { 1 };
+
+    ghost POSITION = { false };
+
+    ghost BINDINGS = { false };
+
+    ghost shaped = { refl };
 
     fn word(&self) -> &'static [u8] {
         Self::KEYWORD

@@ -1,5 +1,5 @@
 //! The inference rule `instantiate`: each bound variable is replaced by its term, all at once.
-ghost use Rattle.std.specs.Prelude.{ℕ, ◌≤◌, List, length};
+ghost use Rattle.std.specs.Prelude.{ℕ, ◌≤◌, List, length, refl, false, true};
 ghost use Rattle.rules.specs.Images.{images, ReplacesWords};
 ghost use Rattle.rules.specs.Pieces.{Within, Behind};
 ghost use Rattle.rules.specs.Six.{instantiate_rule};
@@ -7,7 +7,7 @@ ghost use Rattle.rules.specs.Laws.{instantiate_keeps};
 
 use crate::bound::{binding_of, bound_twice, bound_variables, bound_words};
 use crate::pieces::{after, after_word, ends};
-use bench::{Inference, Question, Rule, RuleFault, Shape};
+use bench::{Inference, Question, Rule, RuleFault};
 use reading::Bindings;
 
 /// The inference rule `instantiate`.
@@ -55,14 +55,15 @@ impl Rule for Instantiate {
 
     const BINDINGS: bool = true;
 
-    fn shape(&self) -> Shape {
-        Shape {
-            premises: Self::PREMISES,
-            literals: Self::LITERALS,
-            position: Self::POSITION,
-            bindings: Self::BINDINGS,
-        }
-    }
+    ghost PREMISES = { 1 };
+
+    ghost LITERALS = { 0 };
+
+    ghost POSITION = { false };
+
+    ghost BINDINGS = { true };
+
+    ghost shaped = { refl };
 
     fn word(&self) -> &'static [u8] {
         Self::KEYWORD

@@ -1,5 +1,5 @@
 //! The inference rule `paramod`: one occurrence of the left side of an equality is replaced by its right side.
-ghost use Rattle.std.specs.Prelude.{◌≤◌, length};
+ghost use Rattle.std.specs.Prelude.{◌≤◌, length, refl, false, true};
 ghost use Rattle.rules.specs.Pieces.{Behind};
 ghost use Rattle.rules.specs.Places.{paramodulant_words};
 ghost use Rattle.rules.specs.Six.{paramod_rule};
@@ -8,7 +8,7 @@ ghost use Rattle.rules.specs.Laws.{paramod_keeps};
 use crate::pieces::{after, after_both, ends};
 use crate::position::term_span;
 use crate::sides::{is_equality, right_side};
-use bench::{Inference, Question, Rule, RuleFault, Shape};
+use bench::{Inference, Question, Rule, RuleFault};
 use logic::{Span, literal_span, same};
 
 /// The inference rule `paramod`.
@@ -51,14 +51,15 @@ impl Rule for Paramod {
 
     const BINDINGS: bool = false;
 
-    fn shape(&self) -> Shape {
-        Shape {
-            premises: Self::PREMISES,
-            literals: Self::LITERALS,
-            position: Self::POSITION,
-            bindings: Self::BINDINGS,
-        }
-    }
+    ghost PREMISES = { 2 };
+
+    ghost LITERALS = { 2 };
+
+    ghost POSITION = { true };
+
+    ghost BINDINGS = { false };
+
+    ghost shaped = { refl };
 
     fn word(&self) -> &'static [u8] {
         Self::KEYWORD

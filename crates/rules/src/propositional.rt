@@ -1,9 +1,10 @@
 //! The inference rule `propositional`: literals change their order, are repeated, or are merged where they are the same.
+ghost use Rattle.std.specs.Prelude.{refl, false};
 ghost use Rattle.rules.specs.Among.{StandsAmong, AllAmong};
 ghost use Rattle.rules.specs.Six.{propositional_rule};
 ghost use Rattle.rules.specs.Laws.{propositional_keeps};
 
-use bench::{Inference, Question, Rule, RuleFault, Shape};
+use bench::{Inference, Question, Rule, RuleFault};
 use logic::{SymbolRow, same, terms_end};
 
 /// The inference rule `propositional`.
@@ -57,14 +58,15 @@ impl Rule for Propositional {
 
     const BINDINGS: bool = false;
 
-    fn shape(&self) -> Shape {
-        Shape {
-            premises: Self::PREMISES,
-            literals: Self::LITERALS,
-            position: Self::POSITION,
-            bindings: Self::BINDINGS,
-        }
-    }
+    ghost PREMISES = { 1 };
+
+    ghost LITERALS = { 0 };
+
+    ghost POSITION = { false };
+
+    ghost BINDINGS = { false };
+
+    ghost shaped = { refl };
 
     fn word(&self) -> &'static [u8] {
         Self::KEYWORD

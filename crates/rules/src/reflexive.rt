@@ -1,5 +1,5 @@
 //! The inference rule `reflexive`: an equality with the same term on both sides.
-ghost use Rattle.std.specs.Prelude.{◌≡◌, Decides};
+ghost use Rattle.std.specs.Prelude.{◌≡◌, Decides, refl, false};
 ghost use Rattle.logic.specs.Syntax.{Clause};
 ghost use Rattle.logic.specs.Words.{clause_words};
 ghost use Rattle.logic.specs.Lawful.{Lawful};
@@ -8,7 +8,7 @@ ghost use Rattle.rules.specs.Six.{reflexive_rule};
 ghost use Rattle.rules.specs.Laws.{reflexive_keeps};
 
 use crate::sides::{is_equality, right_side};
-use bench::{Inference, Question, Rule, RuleFault, Shape};
+use bench::{Inference, Question, Rule, RuleFault};
 use logic::{SymbolRow, same};
 
 /// The inference rule `reflexive`.
@@ -43,14 +43,15 @@ impl Rule for Reflexive {
 
     const BINDINGS: bool = false;
 
-    fn shape(&self) -> Shape {
-        Shape {
-            premises: Self::PREMISES,
-            literals: Self::LITERALS,
-            position: Self::POSITION,
-            bindings: Self::BINDINGS,
-        }
-    }
+    ghost PREMISES = { 0 };
+
+    ghost LITERALS = { 0 };
+
+    ghost POSITION = { false };
+
+    ghost BINDINGS = { false };
+
+    ghost shaped = { refl };
 
     fn word(&self) -> &'static [u8] {
         Self::KEYWORD

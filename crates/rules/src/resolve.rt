@@ -1,5 +1,5 @@
 //! The inference rule `resolve`: two literals with the same atom and opposite signs are left out, and what is left is joined.
-ghost use Rattle.std.specs.Prelude.{◌≡◌, ◌+◌, ◌≤◌, ◌⊎◌, List, ◌++◌, length, Decides};
+ghost use Rattle.std.specs.Prelude.{◌≡◌, ◌+◌, ◌≤◌, ◌⊎◌, List, ◌++◌, length, Decides, refl, false};
 ghost use Rattle.std.specs.List.{between};
 ghost use Rattle.logic.specs.declared.row.SymbolRow.{SymbolRow as Symbols};
 ghost use Rattle.logic.specs.Syntax.{Literal};
@@ -11,7 +11,7 @@ ghost use Rattle.rules.specs.Six.{resolve_rule};
 ghost use Rattle.rules.specs.Laws.{resolve_keeps};
 
 use crate::pieces::{after_cut, ends};
-use bench::{Inference, Question, Rule, RuleFault, Shape};
+use bench::{Inference, Question, Rule, RuleFault};
 use logic::{NEGATION, Span, literal_span, same};
 
 /// The inference rule `resolve`.
@@ -78,14 +78,15 @@ impl Rule for Resolve {
 
     const BINDINGS: bool = false;
 
-    fn shape(&self) -> Shape {
-        Shape {
-            premises: Self::PREMISES,
-            literals: Self::LITERALS,
-            position: Self::POSITION,
-            bindings: Self::BINDINGS,
-        }
-    }
+    ghost PREMISES = { 2 };
+
+    ghost LITERALS = { 2 };
+
+    ghost POSITION = { false };
+
+    ghost BINDINGS = { false };
+
+    ghost shaped = { refl };
 
     fn word(&self) -> &'static [u8] {
         Self::KEYWORD
