@@ -1,9 +1,9 @@
 -- What the rule flip finds on words.
-use Rattle.std.proofs.Common.{◌≡◌, ℕ, suc, ◌+◌, ◌-◌, Bool, true, false, ◌⊎◌, List, [], ◌++◌, length, take, drop, Some, None, Decides, sym, refl, ap, ◌∙◌, ap₂, append_assoc, append-nil, le_refl, arith}
+use Rattle.std.proofs.Common.{◌≡◌, ℕ, suc, ◌+◌, ◌-◌, true, false, ◌⊎◌, List, [], ◌++◌, length, take, drop, Ok, Err, Result, Decides, sym, refl, ap, ◌∙◌, ap₂, append_assoc, append-nil, le_refl, arith}
 use Rattle.std.specs.List.{between}
 use Rattle.std.proofs.lemmas.Slice.{between_to_end}
 use Rattle.std.proofs.ByRecursion.{All-set}
-use Rattle.std.proofs.lemmas.Bool.Decides.{Decides-like, not_from_Decides}
+use Rattle.std.proofs.lemmas.Bool.Decides.{not_from_Decides}
 use Rattle.logic.specs.declared.row.SymbolRow.{SymbolRow}
 use Rattle.logic.specs.declared.words.Span.{Span}
 use Rattle.logic.specs.Syntax.{Term, Literal, Clause, equal}
@@ -12,22 +12,26 @@ use Rattle.logic.specs.Lawful.{LawfulTerm, LawfulAtom}
 use Rattle.logic.specs.Literals.{literal}
 use Rattle.logic.proofs.Spelt.{Formed, FormedAtom, formed}
 use Rattle.bench.specs.declared.question.Question.{Question}
-use Rattle.inference.specs.Answers.{allowed, fault}
+use Rattle.bench.specs.declared.fault.RuleFault.{RuleFault}
+use Rattle.bench.specs.Faults.{answered}
+use Rattle.inference.specs.Answers.{fault}
 use Rattle.bench.specs.Meanings.{Asked, premise, literal_number}
 use Rattle.bench.specs.Questions.{Shows}
 use Rattle.bench.proofs.Shown.{premise_lawful}
 use Rattle.inference.specs.Conclusions.{IsEquation, exchange}
 use Rattle.inference.specs.Flip.{flip}
-use Rattle.rules.specs.Sides.{Headed, Parted, flipped_words}
-use Rattle.rules.proofs.Located.{Around, around, has_not, literal_lawful, conclusion_by_words}
-use Rattle.rules.proofs.Numbered.{Finds, found_at}
+use Rattle.rules.specs.Sides.{Headed, Parted}
+use Rattle.rules.specs.Pieces.{Allows}
+use Rattle.rules.proofs.Concluded.{answered_last}
+use Rattle.rules.proofs.Located.{Around, around, literal_lawful, allowed_by_words}
+use Rattle.rules.proofs.Numbered.{Finds, found_at, not_found}
 use Rattle.inference.proofs.Order.{flip_answers}
 use Rattle.rules.proofs.Parted.{sides_lawful, equation_words, equation_decides, sides_behind}
 use Rattle.rules.proofs.Replaced.{set_words}
 
--- the head of a literal put to the words before it
-regroup : (r s t v o : List ℕ) → r ++ ((s ++ (t ++ v)) ++ o) ≡ (r ++ s) ++ ((t ++ v) ++ o)
-regroup r s t v o = simp append_assoc
+-- the pieces of a literal, one after another
+regroup : (r s t v o : List ℕ) → r ++ ((s ++ (t ++ v)) ++ o) ≡ r ++ (s ++ (t ++ (v ++ (o ++ []))))
+regroup r s t v o = simp (append_assoc, append-nil)
 
 -- what is asked, and the words that show it
 module _ (q : Question) (s : Asked) (shown : Shows s q) where
@@ -49,10 +53,10 @@ module _ (q : Question) (s : Asked) (shown : Shows s q) where
   abbrev c : Clause
   c = s.conclusion
 
-  pub no_literal : Finds q 0 wi None → fault 21 ≡ flip i a c
-  no_literal f = sym ((flip_answers i a c).otherwise (has_not i a (found_at q s shown 0 wi None shown.first f)))
+  pub no_literal : (g : RuleFault) → Finds q 0 wi (Err g) → answered (Err g) ≡ flip i a c
+  no_literal g f = not_found q s shown 0 wi g shown.first f (flip i a c) (flip_answers i a c)
 
-  module _ (sp : Span) (f : Finds q 0 wi (Some sp)) where
+  module _ (sp : Span) (f : Finds q 0 wi (Ok sp)) where
     -- the words of the literal, and where they stand
     abbrev lit : List ℕ
     lit = between sp.start sp.end wi
@@ -64,7 +68,7 @@ module _ (q : Question) (s : Asked) (shown : Shows s q) where
     Equation = Headed equality_word lit ⊎ Headed (negation + equality_word) lit
 
     stands : Around wi i a sp
-    stands = around wi i a sp shown.first (found_at q s shown 0 wi (Some sp) shown.first f)
+    stands = around wi i a sp shown.first (found_at q s shown 0 wi (Ok sp) shown.first f)
 
     lawful : LawfulAtom rows la.atom
     lawful = literal_lawful rows i a (premise_lawful s q shown 0) stands.has
@@ -105,7 +109,8 @@ module _ (q : Question) (s : Asked) (shown : Shows s q) where
           sym (ap₂ ◌++◌ (ap (take 1) (stands.here ∙ equation_words la eq))
           (ap₂ ◌++◌ (between_to_end lit right (length lit) (le_refl (length lit)) ∙ parts.right) parts.left))
 
-      words_are : clause_words (exchange i a eq.s eq.t) ≡ flipped_words (take sp.start wi) lit right (between sp.end (length wi) wi)
+      words_are : clause_words (exchange i a eq.s eq.t)
+          ≡ take sp.start wi ++ (take 1 lit ++ (between right (length lit) lit ++ (between 1 right lit ++ (between sp.end (length wi) wi ++ []))))
       words_are =
           let z : suc (a - 1) ≡ a = omega (arith, stands.has.0) in
           set_words i (a - 1) other (omega (arith, stands.has.0, stands.has.1))
@@ -118,14 +123,10 @@ module _ (q : Question) (s : Asked) (shown : Shows s q) where
       exchange_formed =
           All-set (λ (l : Literal). FormedAtom rows l.atom) i (a - 1) other (both_lawful.1, both_lawful.0) (formed rows i (premise_lawful s q shown 0).0)
 
-      concluded : (r : Bool) → Decides r (wc ≡ flipped_words (take sp.start wi) lit right (between sp.end (length wi) wi))
-          → Decides r (c ≡ exchange i a eq.s eq.t)
+      -- the conclusion is compared
+      pub concluded : (r : Result (Unit {0}) RuleFault)
+          → Allows r (wc ≡ take sp.start wi ++ (take 1 lit ++ (between right (length lit) lit ++ (between 1 right lit ++ (between sp.end (length wi) wi ++ [])))))
+          → answered r ≡ flip i a c
       concluded r k =
-          conclusion_by_words rows wc c (exchange i a eq.s eq.t) r shown.lawful exchange_formed shown.conclusion
-          (Decides-like r (λ e. e ∙ sym words_are) (λ e. e ∙ words_are) k)
-
-      pub other_conclusion : Decides false (wc ≡ flipped_words (take sp.start wi) lit right (between sp.end (length wi) wi)) → fault 27 ≡ flip i a c
-      other_conclusion k = sym ((((flip_answers i a c).then stands.has).then eq).otherwise (not_from_Decides false (concluded false k) refl))
-
-      pub is_allowed : Decides true (wc ≡ flipped_words (take sp.start wi) lit right (between sp.end (length wi) wi)) → allowed ≡ flip i a c
-      is_allowed k = sym ((((flip_answers i a c).then stands.has).then eq).then ((concluded true k).0 refl))
+          answered_last (flip i a c) (((flip_answers i a c).then stands.has).then eq) r
+          (allowed_by_words rows wc c (exchange i a eq.s eq.t) shown.lawful exchange_formed shown.conclusion _ words_are r k)

@@ -1,6 +1,7 @@
 -- The words of an instance are those of the premise with each variable replaced by the words of its term.
-use Rattle.std.proofs.Common.{◌≡◌, ℕ, suc, ◌+◌, ◌<◌, ◌≤◌, Bool, true, false, cond, eqb, ltb, List, [], ◌∷◌, ◌++◌, sym, refl, ap, ◌∙◌, ap₂, append_assoc, append-nil, arith}
-use Rattle.std.specs.List.{AllByRecursion}
+use Rattle.std.proofs.Common.{◌≡◌, ℕ, suc, ◌+◌, ◌<◌, ◌≤◌, Bool, true, false, cond, eqb, ltb, List, [], ◌∷◌, ◌++◌, sym, refl, ap, ◌∙◌, ap₂, append-nil, arith}
+use Rattle.std.specs.List.{AllByRecursion, flat_map}
+use Rattle.std.proofs.lemmas.List.Concat.{flat_map-append}
 use Rattle.std.proofs.lemmas.Bool.{lt-ltb, le-ltb, cond-true, cond-false}
 use Rattle.logic.specs.Limits as language
 use Rattle.logic.specs.declared.row.SymbolRow.{SymbolRow}
@@ -11,7 +12,6 @@ use Rattle.logic.specs.Lawful.{count, LawfulTerm, LawfulTerms, LawfulAtom}
 use Rattle.bench.specs.Bindings.{LawfulBinding}
 use Rattle.logic.proofs.Spelt.{AllLawful, FormedAtom, Formed}
 use Rattle.inference.specs.Instantiate.{Substitution, instance_term, instance_terms, instance_atom, instance_of, substitution}
-use Rattle.rules.specs.Images.{images}
 
 -- what a word becomes: the words of its term for a variable, and else itself
 abbrev pub word_image : Substitution → ℕ → List ℕ
@@ -26,40 +26,34 @@ module _ (σ : Substitution) where
   pub head_image : (w : ℕ) → language.variables ≤ w → word_image σ w ≡ w ∷ []
   head_image w h = cond-false (ltb w language.variables) (term_words (σ w)) (w ∷ []) (le-ltb w language.variables h)
 
-  -- part after part
-  images-append : (xs ys : List ℕ) → images (word_image σ) (xs ++ ys) ≡ images (word_image σ) xs ++ images (word_image σ) ys
-  images-append [] ys = refl
-  images-append (w ∷ xs) ys =
-      ap (λ r. word_image σ w ++ r) (images-append xs ys) ∙ sym (append_assoc (word_image σ w) (images (word_image σ) xs) (images (word_image σ) ys))
-
-  head_stays : (w : ℕ) (ws : List ℕ) → language.variables ≤ w → images (word_image σ) (w ∷ ws) ≡ w ∷ images (word_image σ) ws
-  head_stays w ws h = ap (λ r. r ++ images (word_image σ) ws) (head_image w h)
+  head_stays : (w : ℕ) (ws : List ℕ) → language.variables ≤ w → flat_map (word_image σ) (w ∷ ws) ≡ w ∷ flat_map (word_image σ) ws
+  head_stays w ws h = ap (λ r. r ++ flat_map (word_image σ) ws) (head_image w h)
 
   module _ (rows : List SymbolRow) where
     -- ── The words of the instance ──
 
     mutual
-      term_images : (t : Term) → LawfulTerm rows t → term_words (instance_term σ t) ≡ images (word_image σ) (term_words t)
+      term_images : (t : Term) → LawfulTerm rows t → term_words (instance_term σ t) ≡ flat_map (word_image σ) (term_words t)
       term_images (var i) g = sym (variable_image i g) ∙ sym (append-nil (word_image σ i))
       term_images (app s ts) g = ap (λ r. (256 + s) ∷ r) (terms_images ts g.1) ∙ sym (head_stays (256 + s) (terms_words ts) (omega arith))
 
-      terms_images : (ts : Terms) → LawfulTerms rows ts → terms_words (instance_terms σ ts) ≡ images (word_image σ) (terms_words ts)
+      terms_images : (ts : Terms) → LawfulTerms rows ts → terms_words (instance_terms σ ts) ≡ flat_map (word_image σ) (terms_words ts)
       terms_images []ₜ g = refl
-      terms_images (t ∷ₜ ts) g = ap₂ ◌++◌ (term_images t g.0) (terms_images ts g.1) ∙ sym (images-append (term_words t) (terms_words ts))
+      terms_images (t ∷ₜ ts) g = ap₂ ◌++◌ (term_images t g.0) (terms_images ts g.1) ∙ sym (flat_map-append (word_image σ) (term_words t) (terms_words ts))
 
-    atom_images : (sign : ℕ) (a : Atom) → LawfulAtom rows a → atom_words sign (instance_atom σ a) ≡ images (word_image σ) (atom_words sign a)
+    atom_images : (sign : ℕ) (a : Atom) → LawfulAtom rows a → atom_words sign (instance_atom σ a) ≡ flat_map (word_image σ) (atom_words sign a)
     atom_images sign (predicate p ts) g =
         ap (λ r. (sign + (256 + p)) ∷ r) (terms_images ts g.1) ∙ sym (head_stays (sign + (256 + p)) (terms_words ts) (omega arith))
     atom_images sign (equal s t) g =
         ap (λ r. (sign + 512) ∷ r)
-        (ap₂ ◌++◌ (term_images s g.0) (term_images t g.1) ∙ sym (images-append (term_words s) (term_words t)))
+        (ap₂ ◌++◌ (term_images s g.0) (term_images t g.1) ∙ sym (flat_map-append (word_image σ) (term_words s) (term_words t)))
         ∙ sym (head_stays (sign + 512) (term_words s ++ term_words t) (omega arith))
 
-    pub clause_images : (c : Clause) → AllLawful rows c → clause_words (instance_of σ c) ≡ images (word_image σ) (clause_words c)
+    pub clause_images : (c : Clause) → AllLawful rows c → clause_words (instance_of σ c) ≡ flat_map (word_image σ) (clause_words c)
     clause_images [] g = refl
     clause_images (l ∷ c) g =
         ap₂ ◌++◌ (atom_images (cond l.negated negation 0) l.atom g.0) (clause_images c g.1)
-        ∙ sym (images-append (literal_words l) (clause_words c))
+        ∙ sym (flat_map-append (word_image σ) (literal_words l) (clause_words c))
 
     -- ── The instance has kinds and arities as the premise has them ──
 

@@ -1,9 +1,8 @@
 -- What instantiate answers, from the tests on words.
-use Rattle.std.proofs.Common.{◌≡◌, ℕ, ◌<◌, Bool, true, false, List, [], ◌∷◌, map, length, get_or, take, Decides, sym, ap, ◌∙◌, inl, inr, arith}
-use Rattle.std.specs.List.{AllByRecursion}
+use Rattle.std.proofs.Common.{◌≡◌, ℕ, ◌<◌, List, [], ◌∷◌, map, length, get_or, take, Result, sym, ap, ◌∙◌, inl, inr, arith}
+use Rattle.std.specs.List.{AllByRecursion, flat_map}
 use Rattle.std.proofs.ByRecursion.{All-get_or, All-from_get_or}
 use Rattle.std.proofs.lemmas.Bool.{cases_lt}
-use Rattle.std.proofs.lemmas.Bool.Decides.{not_from_Decides, Decides-like}
 use Rattle.logic.specs.Limits as language
 use Rattle.logic.specs.declared.row.SymbolRow.{SymbolRow}
 use Rattle.inference.specs.Instantiate.{Binding}
@@ -13,17 +12,21 @@ use Rattle.reading.specs.declared.bindings.Bindings.{Bindings}
 use Rattle.reading.specs.Bindings.{held, held_at}
 use Rattle.bench.specs.Bindings.{kept_binding}
 use Rattle.bench.specs.declared.question.Question.{Question}
-use Rattle.inference.specs.Answers.{allowed, fault}
+use Rattle.inference.specs.Answers.{fault}
 use Rattle.bench.specs.Meanings.{Asked, premise}
 use Rattle.bench.specs.Questions.{Shows}
 use Rattle.bench.proofs.Shown.{premise_lawful}
 use Rattle.inference.specs.Instantiate.{instance_of, substitution, instantiate}
 use Rattle.inference.specs.Conclusions.{Unbound, BoundOnce}
-use Rattle.rules.specs.Images.{Room, Repeats, images, ReplacesWords}
+use Rattle.rules.specs.Images.{Room, Repeats, ReplacesWords}
 use Rattle.inference.proofs.Same.{clause_is, clause_same}
 use Rattle.inference.proofs.InstantiateExact.{each_goes, other_stays, has_instance, instance_has}
 use Rattle.inference.proofs.Order.{instantiate_answers}
-use Rattle.rules.proofs.Located.{conclusion_by_words}
+use Rattle.bench.specs.declared.fault.RuleFault.{RuleFault}
+use Rattle.bench.specs.Faults.{answered}
+use Rattle.rules.specs.Pieces.{Allows}
+use Rattle.rules.proofs.Concluded.{allows_like, answered_last}
+use Rattle.rules.proofs.Located.{allowed_by_words}
 use Rattle.rules.proofs.HeldBindings.{no_binding, counted, few, variable_nth, words_nth, repeats_not_once, once_unless_repeats}
 use Rattle.rules.proofs.InstanceWords.{word_image, variable_image, head_image, clause_images, formed_instance, lawful_substitution}
 
@@ -69,31 +72,21 @@ module _ (s : Asked) (q : Question) (h : Shows s q) (room : Room q.bindings.now)
     once : BoundOnce s.bindings
     once = once_unless_repeats q.bindings.now s.bindings room h.bindings vs f q.rows.now h.terms n
 
-    -- r says whether the words of the conclusion are those of the premise, replaced as the bindings say
-    module _ (r : Bool)
-        (d : (σ : ℕ → List ℕ) → ReplacesWords q.bindings.now σ → Decides r (q.conclusion.now ≡ images σ q.first.now)) where
-      by_words : Decides r (s.conclusion ≡ instance_of (substitution s.bindings) (premise s 0))
-      by_words =
-          let σ = substitution s.bindings in
-          let rows = q.rows.now in
-          let lawful = (premise_lawful s q h 0).0 in
-          let replaced = replaces_words rows q.bindings.now s.bindings room h.bindings h.terms once in
-          let x : images (word_image σ) q.first.now ≡ clause_words (instance_of σ (premise s 0)) =
-          ap (images (word_image σ)) h.first ∙ sym (clause_images σ rows (premise s 0) lawful) in
-          conclusion_by_words rows q.conclusion.now s.conclusion (instance_of σ (premise s 0)) r h.lawful
-          (formed_instance σ rows (lawful_substitution rows s.bindings h.terms) (premise s 0) lawful) h.conclusion
-          (Decides-like r (λ y. y ∙ x) (λ y. y ∙ sym x) (d (word_image σ) replaced))
-
-      pub exit_allowed : r ≡ true → allowed ≡ instantiate (premise s 0) s.bindings s.conclusion
-      exit_allowed t =
-          let c = s.conclusion in
-          let i = instance_of (substitution s.bindings) (premise s 0) in
-          sym (((instantiate_answers (premise s 0) s.bindings c).then once).then
-          (has_instance (premise s 0) s.bindings c once (clause_same i c (sym (by_words.0 t)))))
-
-      pub exit_27 : r ≡ false → fault 27 ≡ instantiate (premise s 0) s.bindings s.conclusion
-      exit_27 t =
-          let c = s.conclusion in
-          let i = instance_of (substitution s.bindings) (premise s 0) in
-          sym (((instantiate_answers (premise s 0) s.bindings c).then once).otherwise
-          (λ x. not_from_Decides r by_words t (sym (clause_is i c (instance_has (premise s 0) s.bindings c x)))))
+    -- the conclusion is compared with the words of the premise, replaced as the bindings say
+    pub exit_compared : (r : Result (Unit {0}) RuleFault)
+        → ((σ : ℕ → List ℕ) → ReplacesWords q.bindings.now σ → Allows r (q.conclusion.now ≡ flat_map σ q.first.now))
+        → answered r ≡ instantiate (premise s 0) s.bindings s.conclusion
+    exit_compared r k =
+        let σ = substitution s.bindings in
+        let rows = q.rows.now in
+        let lawful = (premise_lawful s q h 0).0 in
+        let i = instance_of σ (premise s 0) in
+        let x : clause_words i ≡ flat_map (word_image σ) q.first.now =
+        clause_images σ rows (premise s 0) lawful ∙ sym (ap (flat_map (word_image σ)) h.first) in
+        let is : Allows r (s.conclusion ≡ i) =
+        allowed_by_words rows q.conclusion.now s.conclusion i h.lawful
+        (formed_instance σ rows (lawful_substitution rows s.bindings h.terms) (premise s 0) lawful) h.conclusion _ x r
+        (k (word_image σ) (replaces_words rows q.bindings.now s.bindings room h.bindings h.terms once)) in
+        answered_last (instantiate (premise s 0) s.bindings s.conclusion) ((instantiate_answers (premise s 0) s.bindings s.conclusion).then once) r
+        (allows_like (λ e. has_instance (premise s 0) s.bindings s.conclusion once (clause_same i s.conclusion (sym e)))
+        (λ e. sym (clause_is i s.conclusion (instance_has (premise s 0) s.bindings s.conclusion e))) r is)

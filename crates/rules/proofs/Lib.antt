@@ -1,6 +1,5 @@
-pub mod Compare
+pub mod Concluded
 pub mod Located
-pub mod Threefold
 pub mod Parted
 pub mod Reflected
 pub mod Replaced

@@ -1,7 +1,8 @@
 -- The words before, of and behind a literal of a clause; and conclusions compared by their words.
-use Rattle.std.proofs.Common.{◌≡◌, ℕ, ◌+◌, ◌-◌, ◌<◌, Bool, ◌⊎◌, List, ◌++◌, length, take, drop, Decides, sym, ap, ◌∙◌, ap₂, ⊎_elim, append_assoc, arith, length-append}
+use Rattle.std.proofs.Common.{◌≡◌, ℕ, ◌+◌, ◌-◌, ◌<◌, ◌⊎◌, List, ◌++◌, length, take, drop, Result, sym, ap, ◌∙◌, ap₂, ⊎_elim, append_assoc, le_refl, arith, length-append}
 use Rattle.std.specs.List.{between}
 use Rattle.std.proofs.lemmas.List.{take_at, drop_at}
+use Rattle.std.proofs.lemmas.Slice.{between_to_end}
 use Rattle.std.proofs.ByRecursion.{All-append, All-take, All-drop, All-get_or}
 use Rattle.logic.specs.declared.row.SymbolRow.{SymbolRow}
 use Rattle.logic.specs.declared.words.Span.{Span}
@@ -13,7 +14,9 @@ use Rattle.logic.proofs.Spelt.{FormedAtom, Formed, formed, formed_injective}
 use Rattle.logic.proofs.Spanned.{words_append}
 use Rattle.inference.specs.Literals.{without}
 use Rattle.inference.specs.Conclusions.{HasLiteral}
-use Rattle.rules.specs.Pieces.{cut}
+use Rattle.bench.specs.declared.fault.RuleFault.{RuleFault}
+use Rattle.rules.specs.Pieces.{Allows}
+use Rattle.rules.proofs.Concluded.{allows_like}
 
 -- the words before, of and behind literal a of a clause whose words are ws
 pub record Around (ws : List ℕ) (c : Clause) (a : ℕ) (s : Span) : Type 0 where
@@ -48,13 +51,11 @@ module _ (rows : List SymbolRow) where
   pub literal_lawful : (c : Clause) (a : ℕ) → Lawful rows c → HasLiteral c a → LawfulAtom rows (literal c a).atom
   literal_lawful c a g h = All-get_or (λ (l : Literal). LawfulAtom rows l.atom) c (a - 1) no_literal (omega (arith, h.0, h.1)) g.0
 
-  -- a written conclusion is the one described exactly when its words are
-  pub conclusion_by_words : (ws : List ℕ) (c d : Clause) (r : Bool) → Lawful rows c → Formed rows d → ws ≡ clause_words c
-      → Decides r (ws ≡ clause_words d) → Decides r (c ≡ d)
-  conclusion_by_words ws c d r g f e h = (
-    λ t. formed_injective rows c d (formed rows c g.0) f (sym e ∙ h.0 t),
-    λ q. h.1 (e ∙ ap clause_words q),
-  )
+  -- a written conclusion is the one described exactly when its words are: these, in whatever way they are put together
+  pub allowed_by_words : (ws : List ℕ) (c d : Clause) → Lawful rows c → Formed rows d → ws ≡ clause_words c
+      → (xs : List ℕ) → clause_words d ≡ xs → (r : Result (Unit {0}) RuleFault) → Allows r (ws ≡ xs) → Allows r (c ≡ d)
+  allowed_by_words ws c d g f e xs h =
+      allows_like (λ t. formed_injective rows c d (formed rows c g.0) f (sym e ∙ t ∙ sym h)) (λ q. e ∙ ap clause_words q ∙ h)
 
   -- what is left of a lawful clause without a literal
   pub without_formed : (c : Clause) (a : ℕ) → Lawful rows c → Formed rows (without c a)
@@ -63,5 +64,7 @@ module _ (rows : List SymbolRow) where
       All-append P (take (a - 1) c) (drop a c) (All-take P (a - 1) c (formed rows c g.0)) (All-drop P a c (formed rows c g.0))
 
 -- and its words
-pub cut_words : (ws : List ℕ) (c : Clause) (a : ℕ) (s : Span) → Around ws c a s → cut ws s ≡ clause_words (without c a)
-cut_words ws c a s r = ap₂ ◌++◌ r.before r.behind ∙ sym (words_append (take (a - 1) c) (drop a c))
+pub without_words : (ws : List ℕ) (c : Clause) (a : ℕ) (s : Span) → Around ws c a s → clause_words (without c a) ≡ take s.start ws ++ between s.end (length ws) ws
+without_words ws c a s r =
+    words_append (take (a - 1) c) (drop a c)
+    ∙ sym (ap₂ ◌++◌ r.before (between_to_end ws s.end (length ws) (le_refl (length ws)) ∙ r.behind))

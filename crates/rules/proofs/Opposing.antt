@@ -1,5 +1,6 @@
 -- Literals with the same atom and opposite signs, by their words.
-use Rattle.std.proofs.Common.{◌≡◌, ℕ, ◌+◌, ◌≤◌, Bool, true, false, cond, not, ◌⊎◌, List, [], ◌∷◌, ◌++◌, length, get_or, drop, Decides, sym, refl, ap, ◌∙◌, ap₂, inl, inr, arith}
+use Rattle.std.proofs.Common.{◌≡◌, ℕ, ◌+◌, ◌≤◌, Bool, true, false, cond, not, ◌⊎◌, List, [], ◌∷◌, ◌++◌, length, Decides, sym, refl, ap, ◌∙◌, ap₂, inl, inr, arith}
+use Rattle.std.proofs.lemmas.Bool.Decides.{Decides-like}
 use Rattle.logic.specs.declared.row.SymbolRow.{SymbolRow}
 use Rattle.logic.specs.Syntax.{Atom, Literal, Clause, predicate, equal}
 use Rattle.logic.specs.Words.{symbol_word, equality_word, negation, term_words, terms_words, atom_words, literal_words}
@@ -59,34 +60,33 @@ module _ (rows : List SymbolRow) where
       (formed_atom rows a g, tt) (formed_atom rows b h, tt)
       (ap (λ r. r ++ []) (words_are 0 a ∙ ap₂ (λ x y. (0 + x) ∷ y) e f ∙ sym (words_are 0 b))))
 
-  module _ (x y : List ℕ) (l m : Literal) (g : LawfulAtom rows l.atom) (h : LawfulAtom rows m.atom) (e : x ≡ literal_words l) (f : y ≡ literal_words m) where
-    x_is : x ≡ (sign l + head_of l.atom) ∷ tail_of l.atom
-    x_is = e ∙ words_are (sign l) l.atom
+  -- literals by their heads, and the words behind them
+  module _ (a b : ℕ) (xs ys : List ℕ) (l m : Literal) (g : LawfulAtom rows l.atom) (h : LawfulAtom rows m.atom) (e : a ∷ xs ≡ literal_words l) (f : b ∷ ys ≡ literal_words m) where
+    one : a ∷ xs ≡ (sign l + head_of l.atom) ∷ tail_of l.atom
+    one = e ∙ words_are (sign l) l.atom
 
-    y_is : y ≡ (sign m + head_of m.atom) ∷ tail_of m.atom
-    y_is = f ∙ words_are (sign m) m.atom
+    other : b ∷ ys ≡ (sign m + head_of m.atom) ∷ tail_of m.atom
+    other = f ∙ words_are (sign m) m.atom
 
-    to_words : Opposed l m → SignsDiffer (get_or x 0 0) (get_or y 0 0) × (drop 1 x ≡ drop 1 y)
+    to_words : Opposed l m → SignsDiffer a b × (xs ≡ ys)
     to_words o =
-        let q = signs_to l.negated m.negated (head_of l.atom) o.signs in
-        let hx : get_or x 0 0 ≡ sign l + head_of l.atom = ap (λ ws. get_or ws 0 0) x_is in
-        let hy : get_or y 0 0 ≡ sign m + head_of l.atom = ap (λ ws. get_or ws 0 0) y_is ∙ ap (λ a. sign m + head_of a) (sym o.atom) in
-        (rw (hx, hy) q, ap (drop 1) x_is ∙ ap tail_of o.atom ∙ sym (ap (drop 1) y_is))
+        let p : a ≡ sign l + head_of l.atom = cc one in
+        let q : b ≡ sign m + head_of l.atom = cc (other, o.atom) in
+        let t : xs ≡ ys = cc (one, other, o.atom) in
+        (rw (p, q) (signs_to l.negated m.negated (head_of l.atom) o.signs), t)
 
-    from_words : SignsDiffer (get_or x 0 0) (get_or y 0 0) → drop 1 x ≡ drop 1 y → Opposed l m
-    from_words q t =
-        let hx : get_or x 0 0 ≡ sign l + head_of l.atom = ap (λ ws. get_or ws 0 0) x_is in
-        let hy : get_or y 0 0 ≡ sign m + head_of m.atom = ap (λ ws. get_or ws 0 0) y_is in
-        let s = signs_from l.negated m.negated (head_of l.atom) (head_of m.atom) (head_small l.atom g) (head_small m.atom h) (rw (hx, hy) at q) in
-        record {
-          atom = atom_injective l.atom m.atom g h s.0 (sym (ap (drop 1) x_is) ∙ t ∙ ap (drop 1) y_is);
-          signs = s.1;
-        }
+    from_words : SignsDiffer a b → xs ≡ ys → Opposed l m
+    from_words d t =
+        let p : a ≡ sign l + head_of l.atom = cc one in
+        let q : b ≡ sign m + head_of m.atom = cc other in
+        let s = signs_from l.negated m.negated (head_of l.atom) (head_of m.atom) (head_small l.atom g) (head_small m.atom h) (rw (p, q) at d) in
+        let u : tail_of l.atom ≡ tail_of m.atom = cc (one, other) in
+        record { atom = atom_injective l.atom m.atom g h s.0 u; signs = s.1 }
 
     -- the heads do not differ by the mark alone
-    pub not_opposed : (SignsDiffer (get_or x 0 0) (get_or y 0 0) → ⊥) → Decides false (Opposed l m)
-    not_opposed n = (λ t. absurd (let z : ◌≡◌ {A = ℕ} 0 1 = cc in omega arith), λ o. absurd (n (to_words o).0))
+    pub not_opposed : (SignsDiffer a b → ⊥) → Opposed l m → ⊥
+    not_opposed n o = n (to_words o).0
 
     -- the heads do, and the arguments are compared
-    pub opposed_by_tails : (r : Bool) → SignsDiffer (get_or x 0 0) (get_or y 0 0) → Decides r (drop 1 x ≡ drop 1 y) → Decides r (Opposed l m)
-    opposed_by_tails r q d = (λ t. from_words q (d.0 t), λ o. d.1 (to_words o).1)
+    pub opposed_by_tails : (r : Bool) → SignsDiffer a b → Decides r (xs ≡ ys) → Decides r (Opposed l m)
+    opposed_by_tails r q d = Decides-like r (from_words q) (λ o. (to_words o).1) d

@@ -1,6 +1,7 @@
 -- What the rule paramod finds on words.
-use Rattle.std.proofs.Common.{◌≡◌, ℕ, suc, ◌-◌, Bool, true, false, List, [], ◌++◌, length, take, drop, Some, None, Decides, Option, sym, refl, ap, ◌∙◌, subst, ap₂, append_assoc, append-nil, le_refl, arith}
+use Rattle.std.proofs.Common.{◌≡◌, ℕ, suc, ◌-◌, Bool, true, false, List, [], ◌++◌, length, take, drop, Some, Ok, Err, Result, Decides, Option, sym, refl, ap, ◌∙◌, subst, ap₂, append_assoc, append-nil, le_refl, arith}
 use Rattle.std.specs.List.{between}
+use Rattle.std.specs.Option.{ok_or}
 use Rattle.std.proofs.lemmas.List.{drop_at}
 use Rattle.std.proofs.lemmas.Slice.{between_to_end}
 use Rattle.std.proofs.ByRecursion.{All-append, All-take, All-drop, All-set}
@@ -14,7 +15,10 @@ use Rattle.logic.specs.Literals.{literal, Lies}
 use Rattle.logic.proofs.Spelt.{Formed, FormedAtom, formed, term_words_injective}
 use Rattle.logic.proofs.Spanned.{words_append}
 use Rattle.bench.specs.declared.question.Question.{Question}
-use Rattle.inference.specs.Answers.{allowed, fault}
+use Rattle.bench.specs.declared.fault.RuleFault.{RuleFault}
+use Rattle.bench.specs.declared.fault.RuleFault.TheVariants.{NoTerm}
+use Rattle.bench.specs.Faults.{answered}
+use Rattle.inference.specs.Answers.{fault}
 use Rattle.bench.specs.Meanings.{Asked, premise, literal_number}
 use Rattle.bench.specs.Questions.{Shows}
 use Rattle.bench.proofs.Shown.{premise_lawful}
@@ -23,9 +27,11 @@ use Rattle.inference.specs.Positions.{at_position, put}
 use Rattle.inference.specs.Conclusions.{IsEquality, replacement}
 use Rattle.inference.specs.Paramod.{paramod}
 use Rattle.rules.specs.Sides.{Headed, Parted}
-use Rattle.rules.specs.Places.{Found, Led, paramodulant_words}
-use Rattle.rules.proofs.Located.{Around, around, has_not, literal_lawful, conclusion_by_words}
-use Rattle.rules.proofs.Numbered.{Finds, found_at}
+use Rattle.rules.specs.Places.{Found, Led}
+use Rattle.rules.specs.Pieces.{Allows}
+use Rattle.rules.proofs.Concluded.{answered_last, some_found, none_found}
+use Rattle.rules.proofs.Located.{Around, around, literal_lawful, allowed_by_words}
+use Rattle.rules.proofs.Numbered.{Finds, found_at, not_found}
 use Rattle.inference.proofs.Order.{paramod_answers}
 use Rattle.rules.proofs.Parted.{as_equation, sides_lawful, equality_decides, sides_behind}
 use Rattle.rules.proofs.Replaced.{set_words, formed_put}
@@ -36,6 +42,10 @@ from_literal : (ws : List ℕ) (c : Clause) (a : ℕ) (s : Span) → ws ≡ clau
 from_literal ws c a s e l =
     ap (drop s.start) (e ∙ l.words)
     ∙ drop_at (clause_words (take (a - 1) c)) (literal_words (literal c a) ++ clause_words (drop a c)) s.start (sym l.starts)
+
+-- the pieces of a paramodulant, one after another
+regroup : (r s t v o : List ℕ) → (r ++ s) ++ ((t ++ v) ++ o) ≡ r ++ (s ++ (t ++ (v ++ (o ++ []))))
+regroup r s t v o = simp (append_assoc, append-nil)
 
 -- what is asked, and the words that show it
 module _ (q : Question) (s : Asked) (shown : Shows s q) where
@@ -69,10 +79,10 @@ module _ (q : Question) (s : Asked) (shown : Shows s q) where
   abbrev c : Clause
   c = s.conclusion
 
-  pub no_first : Finds q 0 wi None → fault 21 ≡ paramod i j a b p c
-  no_first f = sym ((paramod_answers i j a b p c).otherwise (has_not i a (found_at q s shown 0 wi None shown.first f)))
+  pub no_first : (g : RuleFault) → Finds q 0 wi (Err g) → answered (Err g) ≡ paramod i j a b p c
+  no_first g f = not_found q s shown 0 wi g shown.first f (paramod i j a b p c) (paramod_answers i j a b p c)
 
-  module _ (ip : Span) (fi : Finds q 0 wi (Some ip)) where
+  module _ (ip : Span) (fi : Finds q 0 wi (Ok ip)) where
     -- the words of the equality, and where they stand
     abbrev lit : List ℕ
     lit = between ip.start ip.end wi
@@ -81,7 +91,7 @@ module _ (q : Question) (s : Asked) (shown : Shows s q) where
     la = literal i a
 
     stands_i : Around wi i a ip
-    stands_i = around wi i a ip shown.first (found_at q s shown 0 wi (Some ip) shown.first fi)
+    stands_i = around wi i a ip shown.first (found_at q s shown 0 wi (Ok ip) shown.first fi)
 
     lawful_a : LawfulAtom rows la.atom
     lawful_a = literal_lawful rows i a (premise_lawful s q shown 0) stands_i.has
@@ -89,11 +99,10 @@ module _ (q : Question) (s : Asked) (shown : Shows s q) where
     spelt : lit ≡ literal_words la ++ []
     spelt = stands_i.here ∙ sym (append-nil (literal_words la))
 
-    pub no_second : Finds q 1 wj None → fault 21 ≡ paramod i j a b p c
-    no_second f =
-        sym (((paramod_answers i j a b p c).then stands_i.has).otherwise (has_not j b (found_at q s shown 1 wj None shown.second f)))
+    pub no_second : (g : RuleFault) → Finds q 1 wj (Err g) → answered (Err g) ≡ paramod i j a b p c
+    no_second g f = not_found q s shown 1 wj g shown.second f (paramod i j a b p c) ((paramod_answers i j a b p c).then stands_i.has)
 
-    module _ (jp : Span) (fj : Finds q 1 wj (Some jp)) where
+    module _ (jp : Span) (fj : Finds q 1 wj (Ok jp)) where
       abbrev lb : Literal
       lb = literal j b
 
@@ -101,7 +110,7 @@ module _ (q : Question) (s : Asked) (shown : Shows s q) where
       rest = clause_words (drop b j)
 
       lies_j : Lies j b jp
-      lies_j = found_at q s shown 1 wj (Some jp) shown.second fj
+      lies_j = found_at q s shown 1 wj (Ok jp) shown.second fj
 
       stands_j : Around wj j b jp
       stands_j = around wj j b jp shown.second lies_j
@@ -129,11 +138,18 @@ module _ (q : Question) (s : Asked) (shown : Shows s q) where
             subst (λ (o : List ℕ). Led rows lb o wj jp.start rest r) shown.position
             (f lb rest lawful_b (from_literal wj j b jp shown.second lies_j))
 
-        pub no_term : Seeks None → fault 24 ≡ paramod i j a b p c
-        no_term f = sym (((((paramod_answers i j a b p c).then stands_i.has).then stands_j.has).then eq).otherwise (led None f))
+        pub no_term : (r : Option Span) → Seeks r → (g : RuleFault) → Err g ≡ ok_or r NoTerm → answered (Err g) ≡ paramod i j a b p c
+        no_term r f g e =
+            let n = none_found NoTerm r g e in
+            ap (λ h. answered (Err h)) n.1
+            ∙ sym (((((paramod_answers i j a b p c).then stands_i.has).then stands_j.has).then eq).otherwise
+            (subst (λ (o : Option Span). Led rows lb p wj jp.start rest o) n.0 (led r f)))
+
+        pub found_there : (r : Option Span) → Seeks r → (up : Span) → Ok up ≡ ok_or r NoTerm → Found rows lb p wj jp.start rest up
+        found_there r f up e = subst (λ (o : Option Span). Led rows lb p wj jp.start rest o) (some_found NoTerm r up e) (led r f)
 
         module _ (right : ℕ) (sides : (t : Term) (more : List ℕ) → LawfulTerm rows t → drop 1 lit ≡ term_words t ++ more → Parted lit right (term_words t) more)
-            (up : Span) (fu : Seeks (Some up)) where
+            (up : Span) (found : Found rows lb p wj jp.start rest up) where
           both_lawful : LawfulTerm rows eq.s × LawfulTerm rows eq.t
           both_lawful = sides_lawful rows la (as_equation la eq) lawful_a
 
@@ -141,9 +157,6 @@ module _ (q : Question) (s : Asked) (shown : Shows s q) where
           parts =
               sides eq.s (term_words eq.t) both_lawful.0
               (sides_behind rows lit [] la lawful_a spelt (as_equation la eq) ∙ ap (λ xs. term_words eq.s ++ xs) (append-nil (term_words eq.t)))
-
-          found : Found rows lb p wj jp.start rest up
-          found = led (Some up) fu
 
           -- the term's words are compared with those of the left side
           is_side : (r : Bool) → Decides r (between up.start up.end wj ≡ between 1 right lit) → Decides r (at_position lb p ≡ Some eq.s)
@@ -164,7 +177,7 @@ module _ (q : Question) (s : Asked) (shown : Shows s q) where
           new = between right (length lit) lit
 
           abbrev words : List ℕ
-          words = paramodulant_words (take ip.start wi) (between ip.end (length wi) wi) wj up new
+          words = take ip.start wi ++ (between ip.end (length wi) wi ++ (take up.start wj ++ (new ++ (between up.end (length wj) wj ++ []))))
 
           abbrev described : Clause
           described = replacement i j a b p eq.t
@@ -187,7 +200,9 @@ module _ (q : Question) (s : Asked) (shown : Shows s q) where
               ∙ sym (append_assoc (take up.start wj) new (between up.end (length wj) wj))
 
           words_are : clause_words described ≡ words
-          words_are = words_append (without i a) (with_literal j b (put lb p eq.t)) ∙ ap₂ ◌++◌ left_words right_words
+          words_are =
+              words_append (without i a) (with_literal j b (put lb p eq.t)) ∙ ap₂ ◌++◌ left_words right_words
+              ∙ regroup (take ip.start wi) (between ip.end (length wi) wi) (take up.start wj) new (between up.end (length wj) wj)
 
           described_formed : Formed rows described
           described_formed =
@@ -197,18 +212,10 @@ module _ (q : Question) (s : Asked) (shown : Shows s q) where
               (All-append P (take (a - 1) i) (drop a i) (All-take P (a - 1) i fi) (All-drop P a i fi))
               (All-set P j (b - 1) (put lb p eq.t) (formed_put rows eq.t both_lawful.1 lb p lawful_b) (formed rows j (premise_lawful s q shown 1).0))
 
-          concluded : (r : Bool) → Decides r (wc ≡ words) → Decides r (c ≡ described)
-          concluded r k =
-              conclusion_by_words rows wc c described r shown.lawful described_formed shown.conclusion
-              (Decides-like r (λ e. e ∙ sym words_are) (λ e. e ∙ words_are) k)
-
-          module _ (k : Decides true (between up.start up.end wj ≡ between 1 right lit)) where
-            pub other_conclusion : Decides false (wc ≡ words) → fault 27 ≡ paramod i j a b p c
-            other_conclusion h =
-                sym (((((((paramod_answers i j a b p c).then stands_i.has).then stands_j.has).then eq).then (found.term, found.there)).then ((is_side true k).0 refl)
-                ).otherwise (not_from_Decides false (concluded false h) refl))
-
-            pub is_allowed : Decides true (wc ≡ words) → allowed ≡ paramod i j a b p c
-            is_allowed h =
-                sym (((((((paramod_answers i j a b p c).then stands_i.has).then stands_j.has).then eq).then (found.term, found.there)).then ((is_side true k).0 refl)
-                ).then ((concluded true h).0 refl))
+          -- the conclusion is compared
+          pub concluded : Decides true (between up.start up.end wj ≡ between 1 right lit) → (r : Result (Unit {0}) RuleFault) → Allows r (wc ≡ words)
+              → answered r ≡ paramod i j a b p c
+          concluded k r h =
+              answered_last (paramod i j a b p c)
+              ((((((paramod_answers i j a b p c).then stands_i.has).then stands_j.has).then eq).then (found.term, found.there)).then ((is_side true k).0 refl)) r
+              (allowed_by_words rows wc c described shown.lawful described_formed shown.conclusion words words_are r h)

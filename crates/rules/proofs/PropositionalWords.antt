@@ -1,5 +1,5 @@
 -- What propositional answers, from the tests on words.
-use Rattle.std.proofs.Common.{◌≡◌, ℕ, ◌+◌, ◌<◌, ◌≤◌, Bool, true, false, cond, ◌&&◌, ◌||◌, T, List, length, drop, sym, refl, ap, ◌∙◌, ap₂}
+use Rattle.std.proofs.Common.{◌≡◌, ℕ, ◌+◌, ◌<◌, ◌≤◌, Bool, true, false, cond, ◌&&◌, ◌||◌, T, List, length, drop, sym, refl, ap, ◌∙◌, Result, IsTrue}
 use lib.Dec.{not_T}
 use Rattle.std.specs.List.{between}
 use Rattle.logic.specs.declared.row.SymbolRow.{SymbolRow}
@@ -15,9 +15,13 @@ use Rattle.bench.specs.Questions.{Shows}
 use Rattle.bench.proofs.Shown.{premise_lawful}
 use Rattle.inference.specs.Same.{same_literal, stands_in, within}
 use Rattle.inference.specs.Propositional.{propositional}
-use Rattle.rules.specs.Among.{StandsAmong, AllAmong}
+use Rattle.rules.specs.Among.{StandsAmong, AllAmong, SameAmong}
 use Rattle.inference.proofs.Bools.{is_false}
 use Rattle.inference.proofs.Same.{literal_is, literal_same}
+use Rattle.bench.specs.declared.fault.RuleFault.{RuleFault}
+use Rattle.bench.specs.Faults.{answered}
+use Rattle.rules.specs.Pieces.{Allows}
+use Rattle.rules.proofs.Concluded.{answered_test}
 use Rattle.rules.proofs.LiteralWalk.{Left, all_left, Cut, cut, none_left}
 
 -- a test that succeeds is true
@@ -108,19 +112,11 @@ module _ (rows : List SymbolRow) where
     through_all place h inv c d gc gd ev ew =
         let s = inv c d gc gd ev ew in ap (λ x. within x d) (sym (none_left rows s.others vs place s.words h)) ∙ s.same
 
--- ── The answers ──
+-- ── The answer ──
 
-module _ (s : Asked) (q : Question) (h : Shows s q) where
-  -- some literal of the premise is not in the conclusion
-  pub exit_not_kept : AllAmong q.rows.now q.first.now q.conclusion.now false → fault 27 ≡ propositional (premise s 0) s.conclusion
-  exit_not_kept o =
-      ap (λ b. cond (b && within s.conclusion (premise s 0)) allowed (fault 27))
-      (o (premise s 0) s.conclusion (premise_lawful s q h 0) h.lawful h.first h.conclusion)
-
-  -- all are, and b says whether all of the conclusion are in the premise
-  pub exit_kept : (b : Bool) → AllAmong q.rows.now q.first.now q.conclusion.now true
-      → AllAmong q.rows.now q.conclusion.now q.first.now b → cond b allowed (fault 27) ≡ propositional (premise s 0) s.conclusion
-  exit_kept b o k =
-      ap₂ (λ x y. cond (x && y) allowed (fault 27))
-      (o (premise s 0) s.conclusion (premise_lawful s q h 0) h.lawful h.first h.conclusion)
-      (k s.conclusion (premise s 0) h.lawful (premise_lawful s q h 0) h.conclusion h.first)
+-- b says whether the premise and the conclusion have the same literals
+pub compared : (q : Question) (s : Asked) → Shows s q → (b : Bool) → SameAmong q.rows.now q.first.now q.conclusion.now b
+    → (r : Result (Unit {0}) RuleFault) → Allows r (IsTrue b) → answered r ≡ propositional (premise s 0) s.conclusion
+compared q s h b o r k =
+    answered_test b r k
+    ∙ ap (λ x. cond x allowed (fault 27)) (o (premise s 0) s.conclusion (premise_lawful s q h 0) h.lawful h.first h.conclusion)

@@ -1,28 +1,31 @@
 -- What `resolve` answers, from the tests on words.
-use Rattle.std.proofs.Common.{◌≡◌, ℕ, Bool, true, false, List, ◌++◌, Some, None, Decides, sym, refl, ◌∙◌, subst, ap₂}
+use Rattle.std.proofs.Common.{◌≡◌, ℕ, Bool, true, false, List, [], ◌++◌, length, take, Ok, Err, Result, Decides, sym, refl, ◌∙◌, ap₂, append_assoc, append-nil}
 use Rattle.std.specs.List.{between}
 use Rattle.std.proofs.lemmas.Bool.Decides.{not_from_Decides}
 use Rattle.std.proofs.ByRecursion.{All-append}
 use Rattle.logic.specs.declared.row.SymbolRow.{SymbolRow}
 use Rattle.logic.specs.declared.words.Span.{Span}
 use Rattle.logic.specs.Syntax.{Literal, Clause}
-use Rattle.logic.specs.Words.{literal_words}
+use Rattle.logic.specs.Words.{literal_words, clause_words}
 use Rattle.logic.specs.Lawful.{LawfulAtom}
 use Rattle.logic.specs.Literals.{literal}
 use Rattle.logic.proofs.Spelt.{FormedAtom}
 use Rattle.logic.proofs.Spanned.{words_append}
 use Rattle.bench.specs.declared.question.Question.{Question}
-use Rattle.inference.specs.Answers.{allowed, fault}
+use Rattle.bench.specs.declared.fault.RuleFault.{RuleFault}
+use Rattle.bench.specs.Faults.{answered}
+use Rattle.inference.specs.Answers.{fault}
 use Rattle.bench.specs.Meanings.{Asked, premise, literal_number}
 use Rattle.bench.specs.Questions.{Shows}
 use Rattle.bench.proofs.Shown.{premise_lawful}
 use Rattle.inference.specs.Literals.{without}
 use Rattle.inference.specs.Conclusions.{Opposed, resolvent}
-use Rattle.rules.specs.Pieces.{cut}
+use Rattle.rules.specs.Pieces.{Allows}
 use Rattle.rules.specs.Six.{resolve_rule}
 use Rattle.inference.proofs.Order.{resolve_answers}
-use Rattle.rules.proofs.Located.{Around, around, has_not, cut_words, without_formed, literal_lawful, conclusion_by_words}
-use Rattle.rules.proofs.Numbered.{Finds, found_at}
+use Rattle.rules.proofs.Concluded.{answered_last}
+use Rattle.rules.proofs.Located.{Around, around, without_formed, literal_lawful, allowed_by_words, without_words}
+use Rattle.rules.proofs.Numbered.{Finds, found_at, not_found}
 
 module _ (q : Question) (s : Asked) (h : Shows s q) where
   abbrev i : Clause
@@ -37,25 +40,23 @@ module _ (q : Question) (s : Asked) (h : Shows s q) where
   abbrev b : ℕ
   b = literal_number s 1
 
-  pub none_first : Finds q 0 q.first.now None → fault 21 ≡ resolve_rule.answers s
-  none_first f =
-      sym ((resolve_answers i j a b s.conclusion).otherwise (has_not i a (found_at q s h 0 q.first.now None h.first f)))
+  pub none_first : (g : RuleFault) → Finds q 0 q.first.now (Err g) → answered (Err g) ≡ resolve_rule.answers s
+  none_first g f = not_found q s h 0 q.first.now g h.first f (resolve_rule.answers s) (resolve_answers i j a b s.conclusion)
 
   -- the literal of the first premise stands there
-  first_stands : (x : Span) → Finds q 0 q.first.now (Some x) → Around q.first.now i a x
-  first_stands x f = around q.first.now i a x h.first (found_at q s h 0 q.first.now (Some x) h.first f)
+  first_stands : (x : Span) → Finds q 0 q.first.now (Ok x) → Around q.first.now i a x
+  first_stands x f = around q.first.now i a x h.first (found_at q s h 0 q.first.now (Ok x) h.first f)
 
-  pub none_second : (x : Span) → Finds q 0 q.first.now (Some x) → Finds q 1 q.second.now None → fault 21 ≡ resolve_rule.answers s
-  none_second x f g =
-      sym (((resolve_answers i j a b s.conclusion).then (first_stands x f).has
-      ).otherwise (has_not j b (found_at q s h 1 q.second.now None h.second g)))
+  pub none_second : (x : Span) → Finds q 0 q.first.now (Ok x) → (g : RuleFault) → Finds q 1 q.second.now (Err g) → answered (Err g) ≡ resolve_rule.answers s
+  none_second x f g k =
+      not_found q s h 1 q.second.now g h.second k (resolve_rule.answers s) ((resolve_answers i j a b s.conclusion).then (first_stands x f).has)
 
-  module _ (x y : Span) (f : Finds q 0 q.first.now (Some x)) (g : Finds q 1 q.second.now (Some y)) where
+  module _ (x y : Span) (f : Finds q 0 q.first.now (Ok x)) (g : Finds q 1 q.second.now (Ok y)) where
     ai : Around q.first.now i a x
     ai = first_stands x f
 
     aj : Around q.second.now j b y
-    aj = around q.second.now j b y h.second (found_at q s h 1 q.second.now (Some y) h.second g)
+    aj = around q.second.now j b y h.second (found_at q s h 1 q.second.now (Ok y) h.second g)
 
     -- the test on the words of the two literals
     abbrev pub OpposedTest : Bool → Type 0
@@ -73,24 +74,19 @@ module _ (q : Question) (s : Asked) (h : Shows s q) where
     opposed_not t =
         sym ((((resolve_answers i j a b s.conclusion).then ai.has).then aj.has).otherwise (not_from_Decides false (opposed_literals false t) refl))
 
+    words_are : clause_words (resolvent i j a b)
+        ≡ take x.start q.first.now ++ (between x.end (length q.first.now) q.first.now ++ (take y.start q.second.now ++ (between y.end (length q.second.now) q.second.now ++ [])))
+    words_are =
+        words_append (without i a) (without j b) ∙ ap₂ ◌++◌ (without_words _ i a x ai) (without_words _ j b y aj)
+        ∙ simp (append_assoc, append-nil)
+
     -- they are, and the conclusion is compared
-    decided : (r : Bool) → Decides r (q.conclusion.now ≡ cut q.first.now x ++ cut q.second.now y)
-        → Decides r (s.conclusion ≡ resolvent i j a b)
-    decided r d =
-        conclusion_by_words q.rows.now q.conclusion.now s.conclusion (resolvent i j a b) r h.lawful
+    pub concluded : OpposedTest true → (r : Result (Unit {0}) RuleFault)
+        → Allows r (q.conclusion.now ≡ take x.start q.first.now ++ (between x.end (length q.first.now) q.first.now ++ (take y.start q.second.now ++ (between y.end (length q.second.now) q.second.now ++ []))))
+        → answered r ≡ resolve_rule.answers s
+    concluded t r k =
+        answered_last (resolve_rule.answers s) ((((resolve_answers i j a b s.conclusion).then ai.has).then aj.has).then ((opposed_literals true t).0 refl)) r
+        (allowed_by_words q.rows.now q.conclusion.now s.conclusion (resolvent i j a b) h.lawful
         (All-append (λ (l : Literal). FormedAtom q.rows.now l.atom) (without i a) (without j b)
         (without_formed q.rows.now i a (premise_lawful s q h 0)) (without_formed q.rows.now j b (premise_lawful s q h 1)))
-        h.conclusion
-        (subst (λ (ws : List ℕ). Decides r (q.conclusion.now ≡ ws)) (ap₂ ◌++◌ (cut_words _ i a x ai) (cut_words _ j b y aj) ∙ sym (words_append (without i a) (without j b))) d)
-
-    module _ (t : OpposedTest true) (r : Bool) (d : Decides r (q.conclusion.now ≡ cut q.first.now x ++ cut q.second.now y)) where
-      o : Opposed (literal i a) (literal j b)
-      o = (opposed_literals true t).0 refl
-
-      pub other_conclusion : r ≡ false → fault 27 ≡ resolve_rule.answers s
-      other_conclusion e =
-          sym (((((resolve_answers i j a b s.conclusion).then ai.has).then aj.has).then o).otherwise (not_from_Decides r (decided r d) e))
-
-      pub conclusion_given : r ≡ true → allowed ≡ resolve_rule.answers s
-      conclusion_given e =
-          sym (((((resolve_answers i j a b s.conclusion).then ai.has).then aj.has).then o).then ((decided r d).0 e))
+        h.conclusion _ words_are r k)

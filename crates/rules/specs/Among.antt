@@ -1,5 +1,5 @@
 -- Literals that stand among those of a clause, by the words of both.
-use Rattle.std.specs.Prelude.{◌≡◌, ℕ, Bool, List}
+use Rattle.std.specs.Prelude.{◌≡◌, ℕ, Bool, ◌&&◌, List}
 use Rattle.logic.specs.declared.row.SymbolRow.{SymbolRow}
 use Rattle.logic.specs.Syntax.{Literal, Clause}
 use Rattle.logic.specs.Words.{literal_words, clause_words}
@@ -15,3 +15,8 @@ StandsAmong rows xs ws r =
 abbrev pub AllAmong : List SymbolRow → List ℕ → List ℕ → Bool → Type 0
 AllAmong rows vs ws r =
     (c d : Clause) → Lawful rows c → Lawful rows d → vs ≡ clause_words c → ws ≡ clause_words d → r ≡ within c d
+
+-- r says whether the clauses with the words vs and ws have the same literals
+abbrev pub SameAmong : List SymbolRow → List ℕ → List ℕ → Bool → Type 0
+SameAmong rows vs ws r =
+    (c d : Clause) → Lawful rows c → Lawful rows d → vs ≡ clause_words c → ws ≡ clause_words d → r ≡ (within c d && within d c)

@@ -1,5 +1,5 @@
 -- What words become where bound variables are replaced by the words of their terms.
-use Rattle.std.specs.Prelude.{◌≡◌, ℕ, ◌+◌, ◌<◌, ◌≤◌, List, [], ◌∷◌, ◌++◌, length, Option, MatchOption, slice_index, slice_index_or}
+use Rattle.std.specs.Prelude.{◌≡◌, ℕ, ◌+◌, ◌<◌, ◌≤◌, List, [], ◌∷◌, length, Option, MatchOption, slice_index, slice_index_or}
 use Rattle.logic.specs.Limits as language
 use Rattle.reading.specs.declared.bindings.Bindings.{Bindings}
 use Rattle.reading.specs.Limits as limits
@@ -26,11 +26,6 @@ StandsAt vs w k = (k < length vs) × (slice_index vs k ≡ w) × (w < language.v
 -- a place at which the word stands as a variable, or none where there is no such place
 abbrev pub PlaceOf : List ℕ → ℕ → Option ℕ → Type 0
 PlaceOf vs w r = MatchOption r ((k : ℕ) → StandsAt vs w k → ⊥) (λ k. StandsAt vs w k)
-
--- what each word becomes, one after another
-abbrev pub images : (ℕ → List ℕ) → List ℕ → List ℕ
-images σ [] = []
-images σ (w ∷ ws) = σ w ++ images σ ws
 
 -- each bound variable becomes the words of its term, and every other word stays
 pub record ReplacesWords (b : Bindings) (σ : ℕ → List ℕ) : Type 0 where

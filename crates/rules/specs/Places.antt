@@ -1,5 +1,5 @@
 -- Positions on words.
-use Rattle.std.specs.Prelude.{◌≡◌, ℕ, ◌-◌, Bool, cond, ◌&&◌, List, [], ◌∷◌, ◌++◌, length, take, drop, Some, None, Option, MatchOption, nat_le}
+use Rattle.std.specs.Prelude.{◌≡◌, ℕ, ◌-◌, Bool, cond, ◌&&◌, List, [], ◌∷◌, ◌++◌, take, drop, Some, None, Option, MatchOption, nat_le}
 use Rattle.std.specs.List.{between}
 use Rattle.logic.specs.declared.row.SymbolRow.{SymbolRow}
 use Rattle.logic.specs.declared.words.Span.{Span}
@@ -47,9 +47,3 @@ pub record Found (rows : List SymbolRow) (l : Literal) (p ws : List ℕ) (from :
 -- the position leads to no term of the literal, or to one that is found at the span
 abbrev pub Led : List SymbolRow → Literal → List ℕ → List ℕ → ℕ → List ℕ → Option Span → Type 0
 Led rows l p ws from rest r = MatchOption r (Leads l p → ⊥) (λ s. Found rows l p ws from rest s)
-
--- the words of a paramodulant: those before and behind the equality, then those of the second premise with `new` in the
--- place of those from `start` up to `end`
-abbrev pub paramodulant_words : List ℕ → List ℕ → List ℕ → Span → List ℕ → List ℕ
-paramodulant_words before behind second term new =
-    (before ++ behind) ++ ((take term.start second ++ new) ++ between term.end (length second) second)

@@ -51,10 +51,5 @@ pub(crate) fn binding_of(variables: &[u32], word: u32) -> Option<usize>
     if word >= VARIABLES {
         return None;
     }
-    for (k, variable) in variables.iter().enumerate() {
-        if *variable == word {
-            return Some(k);
-        }
-    }
-    None
+    variables.iter().position(|variable| *variable == word)
 }

@@ -1,14 +1,16 @@
 //! The inference rule `instantiate`: each bound variable is replaced by its term, all at once.
-ghost use Rattle.std.specs.Prelude.{ℕ, ◌≤◌, List, length, refl, false, true};
-ghost use Rattle.rules.specs.Images.{images, ReplacesWords};
-ghost use Rattle.rules.specs.Pieces.{Within, Behind};
+ghost use Rattle.std.specs.Prelude.{◌≡◌, ℕ, List, false, true, refl};
+ghost use Rattle.std.specs.List.{flat_map};
+ghost use Rattle.rules.specs.Images.{ReplacesWords};
+ghost use Rattle.rules.specs.Pieces.{Allows};
 ghost use Rattle.rules.specs.Six.{instantiate_rule};
 ghost use Rattle.rules.specs.Laws.{instantiate_keeps};
 
 use crate::bound::{binding_of, bound_twice, bound_variables, bound_words};
-use crate::pieces::{after, after_word, ends};
+use crate::pieces::{allow_if, behind};
 use bench::{Inference, Question, Rule, RuleFault};
 use reading::Bindings;
+use std::slice::from_ref;
 
 /// The inference rule `instantiate`.
 #[derive(Clone, Copy)]
@@ -20,28 +22,29 @@ impl Inference for Instantiate {
     ghost sound = { instantiate_keeps };
 }
 
-/// The place behind what a word of the premise becomes, where the conclusion has it from the place `at` on: a bound variable becomes the words
-/// of its term, and every other word stays.
-fn after_image(word: u32, bindings: &Bindings, conclusion: &[u32], at: usize) -> Option<usize>
-    requires { at ≤ length conclusion.now }
-    ensures within { Within conclusion.now result }
-    ensures image { (σ : ℕ → List ℕ) → ReplacesWords bindings.now σ → Behind (σ word) conclusion.now at result }
+/// What a word of the premise becomes: the words of its term where it is a variable that is bound, and else itself.
+fn image<'a>(word: &'a u32, bindings: &'a Bindings) -> &'a [u32]
+    ensures { (σ : ℕ → List ℕ) → ReplacesWords bindings.now σ → result.now ≡ σ word.now }
 {
-    match binding_of(bound_variables(bindings), word) {
-        Some(k) => after(bound_words(bindings, k), conclusion, at),
-        None => after_word(word, conclusion, at),
+    match binding_of(bound_variables(bindings), *word) {
+        Some(k) => bound_words(bindings, k),
+        None => from_ref(word),
     }
 }
 
-/// The place behind what the premise becomes, where the conclusion begins with it.
-fn after_instance(premise: &[u32], bindings: &Bindings, conclusion: &[u32]) -> Option<usize>
-    ensures { (σ : ℕ → List ℕ) → ReplacesWords bindings.now σ → Behind (images σ premise.now) conclusion.now 0 result }
+/// Allows a conclusion whose words are what those of the premise become, one after another.
+fn conclude_instance(
+    premise: &[u32],
+    bindings: &Bindings,
+    conclusion: &[u32],
+) -> Result<(), RuleFault>
+    ensures { (σ : ℕ → List ℕ) → ReplacesWords bindings.now σ → Allows result (conclusion.now ≡ flat_map σ premise.now) }
 {
-    let mut at = 0;
+    let mut rest = conclusion;
     for word in premise {
-        at = after_image(*word, bindings, conclusion, at)?;
+        rest = behind(rest, image(word, bindings))?;
     }
-    Some(at)
+    allow_if(rest.is_empty())
 }
 
 impl Rule for Instantiate {
@@ -73,11 +76,6 @@ impl Rule for Instantiate {
         if bound_twice(bound_variables(question.bindings)) {
             return Err(RuleFault::BoundTwice);
         }
-        let end = after_instance(question.first, question.bindings, question.conclusion);
-        if ends(end, question.conclusion) {
-            Ok(())
-        } else {
-            Err(RuleFault::OtherConclusion)
-        }
+        conclude_instance(question.first, question.bindings, question.conclusion)
     }
 }

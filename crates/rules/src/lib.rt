@@ -4,6 +4,7 @@
 mod bound;
 mod flip;
 mod instantiate;
+mod literal;
 mod paramod;
 mod pieces;
 mod position;

@@ -15,7 +15,7 @@ const FIRST: usize = 1;
 fn is_number(k: usize, n: usize) -> bool
     ensures { result ≡ numbers k n }
 {
-    FIRST <= k && k <= n
+    (FIRST..=n).contains(&k)
 }
 
 /// Where argument k of the term or literal at the place begins, if it has so many.
@@ -23,13 +23,12 @@ fn argument(words: &[u32], rows: &[SymbolRow], place: usize, k: usize) -> Option
     ensures inside { IfSome result (λ x. x ≤ length words.now) }
     ensures leads { from_place result words.now ≡ stepped (arities rows.now) (drop place words.now) k }
 {
-    if place >= words.len() {
-        return None;
+    let head = *words.get(place)?;
+    if is_number(k, takes(rows, head)) {
+        Some(terms_end(words, rows, place + 1, k - FIRST))
+    } else {
+        None
     }
-    if !is_number(k, takes(rows, words[place])) {
-        return None;
-    }
-    Some(terms_end(words, rows, place + 1, k - FIRST))
 }
 
 /// Where the term begins to which the position leads from the term or literal at `from`, if it leads to one.
@@ -57,7 +56,7 @@ pub(crate) fn term_span(
     ensures within { IfSome result (λ s. (s.start ≤ s.end) × (s.end ≤ length words.now)) }
     ensures leads { (l : Literal) (rest : List ℕ) → LawfulAtom rows.now l.atom → drop from words.now ≡ literal_words l ++ rest → Led rows.now l position.now words.now from rest result }
 {
-    if position.len() == 0 {
+    if position.is_empty() {
         return None;
     }
     let start = term_place(words, rows, from, position)?;

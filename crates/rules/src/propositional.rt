@@ -1,9 +1,10 @@
 //! The inference rule `propositional`: literals change their order, are repeated, or are merged where they are the same.
 ghost use Rattle.std.specs.Prelude.{refl, false};
-ghost use Rattle.rules.specs.Among.{StandsAmong, AllAmong};
+ghost use Rattle.rules.specs.Among.{StandsAmong, AllAmong, SameAmong};
 ghost use Rattle.rules.specs.Six.{propositional_rule};
 ghost use Rattle.rules.specs.Laws.{propositional_keeps};
 
+use crate::pieces::allow_if;
 use bench::{Inference, Question, Rule, RuleFault};
 use logic::{SymbolRow, same, terms_end};
 
@@ -47,6 +48,13 @@ fn all_among(one: &[u32], other: &[u32], rows: &[SymbolRow]) -> bool
     true
 }
 
+/// Whether two clauses have the same literals.
+fn same_literals(one: &[u32], other: &[u32], rows: &[SymbolRow]) -> bool
+    ensures { SameAmong rows.now one.now other.now result }
+{
+    all_among(one, other, rows) && all_among(other, one, rows)
+}
+
 impl Rule for Propositional {
     const KEYWORD: &'static [u8] = b"propositional";
 
@@ -73,13 +81,6 @@ impl Rule for Propositional {
     }
 
     fn ask(&self, question: &Question<'_>) -> Result<(), RuleFault> {
-        if !all_among(question.first, question.conclusion, question.rows) {
-            return Err(RuleFault::OtherConclusion);
-        }
-        if all_among(question.conclusion, question.first, question.rows) {
-            Ok(())
-        } else {
-            Err(RuleFault::OtherConclusion)
-        }
+        allow_if(same_literals(question.first, question.conclusion, question.rows))
     }
 }

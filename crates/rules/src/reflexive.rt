@@ -7,6 +7,7 @@ ghost use Rattle.inference.specs.Conclusions.{Reflects};
 ghost use Rattle.rules.specs.Six.{reflexive_rule};
 ghost use Rattle.rules.specs.Laws.{reflexive_keeps};
 
+use crate::pieces::allow_if;
 use crate::sides::{is_equality, right_side};
 use bench::{Inference, Question, Rule, RuleFault};
 use logic::{SymbolRow, same};
@@ -58,10 +59,6 @@ impl Rule for Reflexive {
     }
 
     fn ask(&self, question: &Question<'_>) -> Result<(), RuleFault> {
-        if is_reflexive(question.conclusion, question.rows) {
-            Ok(())
-        } else {
-            Err(RuleFault::OtherConclusion)
-        }
+        allow_if(is_reflexive(question.conclusion, question.rows))
     }
 }

@@ -11,7 +11,7 @@ use logic::{EQUALITY_WORD, NEGATION, SymbolRow, terms_end};
 fn is_headed(words: &[u32], head: u32) -> bool
     ensures { Decides result (Headed head words.now) }
 {
-    words.len() > 0 && words[0] == head
+    words.first() == Some(&head)
 }
 
 /// Whether the literal is an equality that is not negated.
@@ -25,7 +25,7 @@ pub(crate) fn is_equality(literal: &[u32]) -> bool
 pub(crate) fn is_equation(literal: &[u32]) -> bool
     ensures { Decides result (Headed equality_word literal.now ⊎ Headed (negation + equality_word) literal.now) }
 {
-    is_equality(literal) | is_headed(literal, NEGATION + EQUALITY_WORD)
+    is_equality(literal) || is_headed(literal, NEGATION + EQUALITY_WORD)
 }
 
 /// Where the right side of an equality begins: behind the term that follows the head.

@@ -1,4 +1,5 @@
-use Rattle.std.proofs.Common.{refl, arith}
+use Rattle.std.proofs.Common.{length, sym, refl, arith}
+use Rattle.std.proofs.lemmas.Bool.{eqb-false}
 use Rattle.logic.specs.Syntax.{[]ₜ, ◌∷ₜ◌}
 use Rattle.rules.proofs.Parted.{behind_one}
 use Rattle.rules.proofs.Led.{nowhere, somewhere, none_within, none_led}
@@ -21,6 +22,6 @@ returns c =
       within = (c.terms_end-end.ensures.within.0, c.terms_end-end.ensures.within.1 inside);
       leads = λ l rest g e.
           somewhere c.args.rows.now c.args.words.now c.args.from l rest g e c.args.position.now start c.terms_end-end.result
-          (omega arith) inside c.in_ok-start.ensures.leads
+          (omega (arith, eqb-false (length c.args.position.now) 0 (sym c.if-is_empty.ensures))) inside c.in_ok-start.ensures.leads
           (λ u more w f. behind_one c.args.words.now u more start c.terms_end-end.result f (c.terms_end-end.ensures.terms (u ∷ₜ []ₜ) more (w, tt) refl));
     }

@@ -1,14 +1,8 @@
-use Rattle.std.proofs.Common.{refl}
-use Rattle.std.proofs.lemmas.List.{take_rest}
-use Rattle.std.proofs.lemmas.Bool.Decides.{not_from_Decides}
-use Rattle.rules.proofs.Opposing.{not_opposed, opposed_by_tails}
+use Rattle.std.proofs.Common.{sym, refl, ◌∙◌}
+use Rattle.rules.proofs.Opposing.{opposed_by_tails}
 use Rattle.rules.proofs.resolve.opposed.Goals as goal
 
-pub returns-then-not-signs_differ : goal.returns-then-not-signs_differ
-returns-then-not-signs_differ c rows l m g h e f =
-    not_opposed rows c.args.x.now c.args.y.now l m g h e f (not_from_Decides _ c.if-not-signs_differ.ensures refl)
-
-pub returns : goal.returns
-returns c rows l m g h e f =
-    opposed_by_tails rows c.args.x.now c.args.y.now l m g h e f c.same.result (c.if-not-signs_differ.ensures.0 refl)
-    (simp take_rest at c.same.ensures.words)
+pub returns-then-signs_differ : goal.returns-then-signs_differ
+returns-then-signs_differ c rows l m g h e f =
+    opposed_by_tails rows c.in-Some-Some.head.now c.in-Some-Some.other.now c.in-Some-Some.xs.now c.in-Some-Some.ys.now l m g h (sym c.in-Some-Some.ensures.cases.0 ∙ e) (sym c.in-Some-Some.ensures'.cases.0 ∙ f)
+    c.same.result (c.if-signs_differ.ensures.0 refl) c.same.ensures.words

@@ -1,0 +1,20 @@
+use Rattle.std.proofs.Common.{◌≡◌, Err, arith, rules}
+use Rattle.rules.proofs.Concluded.{behind_more, behind_stops, behind_all}
+use Rattle.rules.proofs.instantiate.conclude_instance.Goals as goal
+
+pub loop-word-preserved : goal.loop-word-preserved
+loop-word-preserved c σ s =
+    behind_more σ c.args.premise.now c.args.conclusion.now c.loop-word.word-index c.loop-word.rest.now (c.loop-word.invariant σ s) 0 (omega arith)
+    c.in_ok-rest.rest.now (rw (c.image.ensures σ s) at c.in_ok-rest.ensures)
+
+pub returns-in_err-rest : goal.returns-in_err-rest
+returns-in_err-rest c σ s =
+    let n = behind_stops σ c.args.premise.now c.args.conclusion.now c.loop-word.word-index c.loop-word.rest.now (c.loop-word.invariant σ s) 0 (omega arith)
+    (rw (c.image.ensures σ s) at c.in_err-rest.ensures.1) in
+    let e : c.from_residual.result ≡ Err c.in_err-rest.field-0.0 = search rules in
+    rw e (c.in_err-rest.ensures.0, n)
+
+pub returns : goal.returns
+returns c σ s =
+    behind_all σ c.args.premise.now c.args.conclusion.now c.loop-word.word-index c.loop-word.rest.now (c.loop-word.invariant σ s)
+    (omega arith) c.is_empty.result c.is_empty.ensures c.allow_if.result c.allow_if.ensures
