@@ -55,9 +55,8 @@ impl Rule for Paramod {
         if !is_equality(equality) {
             return Err(RuleFault::NoEquality);
         }
-        let Span { start, end } = term_span(second, rows, b.start, question.position).ok_or(
-            RuleFault::NoTerm,
-        )?;
+        let found = term_span(second, rows, b.start, question.position);
+        let Span { start, end } = found.ok_or(RuleFault::NoTerm)?;
         let right = right_side(equality, rows);
         if !same(&second[start..end], &equality[1..right]) {
             return Err(RuleFault::OtherTerm);

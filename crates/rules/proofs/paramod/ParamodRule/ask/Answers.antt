@@ -27,7 +27,7 @@ returns-in_err-start c =
       means = λ s h.
           passed_on _ _ _ (search rules)
           (no_term c.args.question.now s h _ c.in_ok-a.ensures.literal _ c.in_ok-b.ensures.literal c.if-not-is_equality.ensures
-          c.term_span.result c.term_span.ensures.leads _ c.in_err-start.ensures.value);
+          c.term_span-found.result c.term_span-found.ensures.leads _ c.in_err-start.ensures.value);
     }
 
 pub returns-then-not-same : goal.returns-then-not-same
@@ -36,7 +36,7 @@ returns-then-not-same c =
       means = λ s h.
           let found =
           found_there c.args.question.now s h _ c.in_ok-a.ensures.literal _ c.in_ok-b.ensures.literal c.if-not-is_equality.ensures
-          c.term_span.result c.term_span.ensures.leads _ c.in_ok-start.ensures.value in
+          c.term_span-found.result c.term_span-found.ensures.leads _ c.in_ok-start.ensures.value in
           other_term c.args.question.now s h _ c.in_ok-a.ensures.literal _ c.in_ok-b.ensures.literal
           c.if-not-is_equality.ensures c.right_side-right.result c.right_side-right.ensures.sides _ found c.if-not-same.ensures.words;
     }
@@ -47,7 +47,7 @@ returns c =
       means = λ s h.
           let found =
           found_there c.args.question.now s h _ c.in_ok-a.ensures.literal _ c.in_ok-b.ensures.literal c.if-not-is_equality.ensures
-          c.term_span.result c.term_span.ensures.leads _ c.in_ok-start.ensures.value in
+          c.term_span-found.result c.term_span-found.ensures.leads _ c.in_ok-start.ensures.value in
           concluded c.args.question.now s h _ c.in_ok-a.ensures.literal _ c.in_ok-b.ensures.literal
           c.if-not-is_equality.ensures c.right_side-right.result c.right_side-right.ensures.sides _ found c.if-not-same.ensures.words
           c.conclude.result c.conclude.ensures;
