@@ -17,5 +17,4 @@ pub mod Seen
 pub mod HeldBindings
 pub mod InstanceWords
 pub mod InstantiateWords
-pub mod LiteralWalk
 pub mod PropositionalWords

@@ -1,12 +1,12 @@
 //! The inference rule `propositional`: literals change their order, are repeated, or are merged where they are the same.
-ghost use Rattle.std.specs.Prelude.{refl, false};
-ghost use Rattle.rules.specs.Among.{StandsAmong, AllAmong, SameAmong};
+ghost use Rattle.std.specs.Prelude.{◌≡◌, false, refl};
+ghost use Rattle.rules.specs.Among.{stands_among, AllAmong, SameAmong};
 ghost use Rattle.rules.specs.Six.{propositional_rule};
 ghost use Rattle.rules.specs.Laws.{propositional_keeps};
 
 use crate::pieces::allow_if;
 use bench::{Inference, Question, Rule, RuleFault};
-use logic::{SymbolRow, same, terms_end};
+use logic::{Literals, SymbolRow, same};
 
 /// The inference rule `propositional`.
 #[derive(Clone, Copy)]
@@ -20,32 +20,16 @@ impl Inference for Propositional {
 
 /// Whether the literal stands among those of the clause.
 fn stands_among(literal: &[u32], clause: &[u32], rows: &[SymbolRow]) -> bool
-    ensures { StandsAmong rows.now literal.now clause.now result }
+    ensures { result ≡ stands_among rows.now literal.now clause.now }
 {
-    let mut start = 0;
-    while start < clause.len() {
-        let end = terms_end(clause, rows, start, 1);
-        if same(literal, &clause[start..end]) {
-            return true;
-        }
-        start = end;
-    }
-    false
+    Literals::of(clause, rows).any(|other| same(literal, other))
 }
 
 /// Whether every literal of one clause stands among those of the other.
 fn all_among(one: &[u32], other: &[u32], rows: &[SymbolRow]) -> bool
     ensures { AllAmong rows.now one.now other.now result }
 {
-    let mut start = 0;
-    while start < one.len() {
-        let end = terms_end(one, rows, start, 1);
-        if !stands_among(&one[start..end], other, rows) {
-            return false;
-        }
-        start = end;
-    }
-    true
+    Literals::of(one, rows).all(|literal| stands_among(literal, other, rows))
 }
 
 /// Whether two clauses have the same literals.

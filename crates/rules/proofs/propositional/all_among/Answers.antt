@@ -1,26 +1,21 @@
-use Rattle.std.proofs.Common.{arith}
-use Rattle.logic.proofs.Walked.{goes_on}
-use Rattle.rules.proofs.PropositionalWords.{through_start, through_more, through_stops, through_all}
+use Rattle.std.proofs.Common.{◌∙◌, ap, map, rules}
+use Rattle.std.specs.List.{list_any, list_all}
+use Rattle.std.specs.Str.{bytes_eq}
+use Rattle.std.proofs.lemmas.Iterator.Search.{all_from_yields_List}
+use Rattle.std.proofs.lemmas.Iterator.Consumers.{YieldsList-from_first}
+use Rattle.logic.specs.Words.{literal_words}
+use Rattle.logic.specs.Walks.{arities, literals_from}
+use Rattle.logic.specs.Literals.{literals_left}
+use Rattle.logic.proofs.LiteralLists.{literals_clause}
+use Rattle.rules.specs.Among.{stands_among}
+use Rattle.rules.proofs.PropositionalWords.{all_among}
 use Rattle.rules.proofs.propositional.all_among.Goals as goal
 
-pub loop-start-init : goal.loop-start-init
-loop-start-init c = (omega arith, through_start c.args.rows.now c.args.one.now c.args.other.now)
-
-pub returns-then-not-stands_among : goal.returns-then-not-stands_among
-returns-then-not-stands_among c =
-    through_stops c.args.rows.now c.args.one.now c.args.other.now c.loop-start.start c.terms_end-end.result (omega arith) c.terms_end-end.ensures.place
-    c.loop-start.invariant.1 c.if-not-stands_among.ensures
-
-pub loop-start-smaller : goal.loop-start-smaller
-loop-start-smaller c =
-    omega (arith, goes_on c.args.rows.now c.args.one.now c.loop-start.start c.terms_end-end.result (omega arith) c.terms_end-end.ensures.place)
-
-pub loop-start-preserved : goal.loop-start-preserved
-loop-start-preserved c = (
-  c.terms_end-end.ensures.within.1 (omega arith),
-  through_more c.args.rows.now c.args.one.now c.args.other.now c.loop-start.start c.terms_end-end.result (omega arith) c.terms_end-end.ensures.place
-      c.loop-start.invariant.1 c.if-not-stands_among.ensures,
-)
-
 pub returns : goal.returns
-returns c = through_all c.args.rows.now c.args.one.now c.args.other.now c.loop-start.start (omega arith) c.loop-start.invariant.1
+returns c e d g h f k =
+    all_from_yields_List (λ xs. stands_among c.args.rows.now xs c.args.other.now) c.all.new.self _ c.all.result c.all.ensures.ran
+    (YieldsList-from_first (λ x. x.now) literals_left _ (c.of.ensures.clause e g f))
+    (λ x b q k. search rules)
+    ∙ ap (λ ys. list_all (λ xs. list_any (bytes_eq xs) ys) (map literal_words e))
+    (ap (literals_from (arities c.args.rows.now) 0) k ∙ literals_clause c.args.rows.now d h.0)
+    ∙ all_among c.args.rows.now e d g.0 h.0
