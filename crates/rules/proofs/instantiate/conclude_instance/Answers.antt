@@ -1,5 +1,5 @@
 use Rattle.std.proofs.Common.{◌≡◌, Err, arith, rules}
-use Rattle.rules.proofs.Concluded.{behind_more, behind_stops, behind_all}
+use Rattle.rules.proofs.Concluded.{behind_more, behind_stops}
 use Rattle.rules.proofs.instantiate.conclude_instance.Goals as goal
 
 pub loop-word-preserved : goal.loop-word-preserved
@@ -13,8 +13,3 @@ returns-in_err-rest c σ s =
     (rw (c.image.ensures σ s) at c.in_err-rest.ensures.1) in
     let e : c.from_residual.result ≡ Err c.in_err-rest.field-0.0 = search rules in
     rw e (c.in_err-rest.ensures.0, n)
-
-pub returns : goal.returns
-returns c σ s =
-    behind_all σ c.args.premise.now c.args.conclusion.now c.loop-word.word-index c.loop-word.rest.now (c.loop-word.invariant σ s)
-    (omega arith) c.is_empty.result c.is_empty.ensures c.allow_if.result c.allow_if.ensures

@@ -1,11 +1,5 @@
-use Rattle.std.proofs.Common.{rules}
-use Rattle.rules.proofs.Concluded.{passed_on}
-use Rattle.rules.proofs.Flipped.{no_literal, no_equation, concluded}
+use Rattle.rules.proofs.Flipped.{no_equation, concluded}
 use Rattle.rules.proofs.flip.FlipRule.ask.Goals as goal
-
-pub returns-in_err-start : goal.returns-in_err-start
-returns-in_err-start c =
-    record { means = λ s h. passed_on _ _ _ (search rules) (no_literal c.args.question.now s h _ c.in_err-start.ensures.literal) }
 
 pub returns-then-not-is_equation : goal.returns-then-not-is_equation
 returns-then-not-is_equation c =

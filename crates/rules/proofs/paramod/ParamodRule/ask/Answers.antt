@@ -1,11 +1,7 @@
 use Rattle.std.proofs.Common.{rules}
 use Rattle.rules.proofs.Concluded.{passed_on}
-use Rattle.rules.proofs.Paramodulated.{no_first, no_second, no_equality, no_term, found_there, other_term, concluded}
+use Rattle.rules.proofs.Paramodulated.{no_second, no_equality, no_term, found_there, other_term, concluded}
 use Rattle.rules.proofs.paramod.ParamodRule.ask.Goals as goal
-
-pub returns-in_err-a : goal.returns-in_err-a
-returns-in_err-a c =
-    record { means = λ s h. passed_on _ _ _ (search rules) (no_first c.args.question.now s h _ c.in_err-a.ensures.literal) }
 
 pub returns-in_err-b : goal.returns-in_err-b
 returns-in_err-b c =

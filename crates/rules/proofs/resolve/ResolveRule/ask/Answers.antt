@@ -1,11 +1,7 @@
 use Rattle.std.proofs.Common.{rules}
 use Rattle.rules.proofs.Concluded.{passed_on}
-use Rattle.rules.proofs.ResolveAsked.{none_first, none_second, opposed_not, concluded}
+use Rattle.rules.proofs.ResolveAsked.{none_second, opposed_not, concluded}
 use Rattle.rules.proofs.resolve.ResolveRule.ask.Goals as goal
-
-pub returns-in_err-a : goal.returns-in_err-a
-returns-in_err-a c =
-    record { means = λ s h. passed_on _ _ _ (search rules) (none_first c.args.question.now s h _ c.in_err-a.ensures.literal) }
 
 pub returns-in_err-b : goal.returns-in_err-b
 returns-in_err-b c =
