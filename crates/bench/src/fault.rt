@@ -3,7 +3,7 @@ ghost use Rattle.std.specs.Prelude.{◌≡◌};
 ghost use Rattle.bench.specs.Faults.{rule_fault_number};
 
 /// A fault of a step, found by its inference rule; `NoRule` is the bench's own, for a keyword that no rule has.
-#[derive(Clone, Copy)]
+#[derive(Clone, Copy, Debug, PartialEq, Eq)]
 pub enum RuleFault {
     NoRule,
     NoLiteral,

@@ -1,10 +1,10 @@
 -- A conclusion compared piece by piece.
-use Rattle.std.proofs.Common.{◌≡◌, ◌≢◌, ℕ, ◌+◌, ◌<◌, ◌≤◌, Bool, true, false, cond, List, [], ◌++◌, length, get_or, drop, Some, None, Option, Ok, Err, Result, MatchOption, MatchResult, IsTrue, eqb, sym, refl, ap, ◌∙◌, arith}
+use Rattle.std.proofs.Common.{◌≡◌, ◌≢◌, ℕ, ◌+◌, ◌<◌, Bool, true, false, cond, List, ◌++◌, length, get_or, drop, Some, None, Option, Ok, Err, Result, MatchOption, MatchResult, IsTrue, sym, refl, ap, ◌∙◌}
 use mathlib.Core.List.{append_cancel_left}
 use Rattle.std.specs.List.{flat_map}
 use Rattle.std.specs.Option.{ok_or}
-use Rattle.std.proofs.lemmas.List.{at_drop_more, at_drop_all, nil_from_length}
-use Rattle.std.proofs.lemmas.Bool.{eqb-true, false≢true}
+use Rattle.std.proofs.lemmas.List.{at_drop_more}
+use Rattle.std.proofs.lemmas.Bool.{false≢true}
 use Rattle.bench.specs.declared.fault.RuleFault.{RuleFault}
 use Rattle.bench.specs.Faults.{answered}
 use Rattle.inference.specs.Answers.{Answer, allowed, fault}
@@ -39,7 +39,7 @@ some_found f (Some y) x e = cc
 
 pub none_found : {A : Type 0} (f : RuleFault) (o : Option A) (g : RuleFault) → ◌≡◌ {A = Result A RuleFault} (Err g) (ok_or o f) → (o ≡ None) × (g ≡ f)
 none_found f None g e = (refl, cc)
-none_found f (Some y) g e = absurd (let z : ◌≡◌ {A = ℕ} 0 1 = cc in omega arith)
+none_found f (Some y) g e = absurd cc
 
 -- what is passed on
 pub passed_on : (r : Result (Unit {0}) RuleFault) (g : RuleFault) (x : Answer) → r ≡ Err g → answered (Err g) ≡ x → answered r ≡ x
@@ -64,10 +64,3 @@ module _ {X : Type 0} (f : X → List ℕ) (xs : List X) (ws : List ℕ) where
     -- it is not
     pub behind_stops : ((next : List ℕ) → rest ≢ f (get_or xs i d) ++ next) → ws ≡ flat_map f xs → ⊥
     behind_stops n t = n (flat_map f (drop (i + 1) xs)) (h.0 t ∙ opened)
-
-  -- no piece is left
-  pub behind_all : (i : ℕ) (rest : List ℕ) → Behind i rest → length xs ≤ i → (b : Bool) → b ≡ eqb (length rest) 0 → (r : Result (Unit {0}) RuleFault)
-      → Allows r (IsTrue b) → Allows r (ws ≡ flat_map f xs)
-  behind_all i rest h l b e r k =
-      let o : flat_map f (drop i xs) ≡ [] = at_drop_all (flat_map f) xs i l in
-      allows_like (λ t. h.1 (nil_from_length rest (eqb-true (length rest) 0 (sym e ∙ t)) ∙ sym o)) (λ q. e ∙ ap (λ r. eqb (length r) 0) (h.0 q ∙ o)) r k

@@ -1,5 +1,5 @@
 -- What the rule flip finds on words.
-use Rattle.std.proofs.Common.{◌≡◌, ℕ, suc, ◌+◌, ◌-◌, true, false, ◌⊎◌, List, [], ◌++◌, length, take, drop, Ok, Err, Result, Decides, sym, refl, ap, ◌∙◌, ap₂, append_assoc, append-nil, le_refl, arith}
+use Rattle.std.proofs.Common.{◌≡◌, ℕ, suc, ◌+◌, ◌-◌, true, false, ◌⊎◌, List, [], ◌++◌, length, take, drop, Ok, Result, Decides, sym, refl, ap, ◌∙◌, ap₂, append_assoc, append-nil, le_refl, arith}
 use Rattle.std.specs.List.{between}
 use Rattle.std.proofs.lemmas.Slice.{between_to_end}
 use Rattle.std.proofs.ByRecursion.{All-set}
@@ -23,8 +23,9 @@ use Rattle.inference.specs.Flip.{flip}
 use Rattle.rules.specs.Sides.{Headed, Parted}
 use Rattle.rules.specs.Pieces.{Allows}
 use Rattle.rules.proofs.Concluded.{answered_last}
-use Rattle.rules.proofs.Located.{Around, around, literal_lawful, allowed_by_words}
-use Rattle.rules.proofs.Numbered.{Finds, found_at, not_found}
+use Rattle.rules.proofs.Located.{Around, allowed_by_words}
+use Rattle.rules.proofs.Numbered as numbered
+use Rattle.rules.proofs.Numbered.{Finds}
 use Rattle.inference.proofs.Order.{flip_answers}
 use Rattle.rules.proofs.Parted.{sides_lawful, equation_words, equation_decides, sides_behind}
 use Rattle.rules.proofs.Replaced.{set_words}
@@ -53,9 +54,6 @@ module _ (q : Question) (s : Asked) (shown : Shows s q) where
   abbrev c : Clause
   c = s.conclusion
 
-  pub no_literal : (g : RuleFault) → Finds q 0 wi (Err g) → answered (Err g) ≡ flip i a c
-  no_literal g f = not_found q s shown 0 wi g shown.first f (flip i a c) (flip_answers i a c)
-
   module _ (sp : Span) (f : Finds q 0 wi (Ok sp)) where
     -- the words of the literal, and where they stand
     abbrev lit : List ℕ
@@ -68,10 +66,10 @@ module _ (q : Question) (s : Asked) (shown : Shows s q) where
     Equation = Headed equality_word lit ⊎ Headed (negation + equality_word) lit
 
     stands : Around wi i a sp
-    stands = around wi i a sp shown.first (found_at q s shown 0 wi (Ok sp) shown.first f)
+    stands = numbered.stands q s shown 0 wi shown.first sp f
 
     lawful : LawfulAtom rows la.atom
-    lawful = literal_lawful rows i a (premise_lawful s q shown 0) stands.has
+    lawful = numbered.lawful q s shown 0 wi shown.first sp f
 
     spelt : lit ≡ literal_words la ++ []
     spelt = stands.here ∙ sym (append-nil (literal_words la))
@@ -109,8 +107,11 @@ module _ (q : Question) (s : Asked) (shown : Shows s q) where
           sym (ap₂ ◌++◌ (ap (take 1) (stands.here ∙ equation_words la eq))
           (ap₂ ◌++◌ (between_to_end lit right (length lit) (le_refl (length lit)) ∙ parts.right) parts.left))
 
-      words_are : clause_words (exchange i a eq.s eq.t)
-          ≡ take sp.start wi ++ (take 1 lit ++ (between right (length lit) lit ++ (between 1 right lit ++ (between sp.end (length wi) wi ++ []))))
+      -- the pieces of the flipped clause
+      abbrev pub pieces : List ℕ
+      pieces = take sp.start wi ++ (take 1 lit ++ (between right (length lit) lit ++ (between 1 right lit ++ (between sp.end (length wi) wi ++ []))))
+
+      words_are : clause_words (exchange i a eq.s eq.t) ≡ pieces
       words_are =
           let z : suc (a - 1) ≡ a = omega (arith, stands.has.0) in
           set_words i (a - 1) other (omega (arith, stands.has.0, stands.has.1))
@@ -124,9 +125,7 @@ module _ (q : Question) (s : Asked) (shown : Shows s q) where
           All-set (λ (l : Literal). FormedAtom rows l.atom) i (a - 1) other (both_lawful.1, both_lawful.0) (formed rows i (premise_lawful s q shown 0).0)
 
       -- the conclusion is compared
-      pub concluded : (r : Result (Unit {0}) RuleFault)
-          → Allows r (wc ≡ take sp.start wi ++ (take 1 lit ++ (between right (length lit) lit ++ (between 1 right lit ++ (between sp.end (length wi) wi ++ [])))))
-          → answered r ≡ flip i a c
+      pub concluded : (r : Result (Unit {0}) RuleFault) → Allows r (wc ≡ pieces) → answered r ≡ flip i a c
       concluded r k =
           answered_last (flip i a c) (((flip_answers i a c).then stands.has).then eq) r
           (allowed_by_words rows wc c (exchange i a eq.s eq.t) shown.lawful exchange_formed shown.conclusion _ words_are r k)

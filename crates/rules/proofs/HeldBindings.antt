@@ -1,7 +1,7 @@
 -- Bindings as they are kept, beside the bindings on trees that they are.
-use Rattle.std.proofs.Common.{◌≡◌, ℕ, zero, suc, ◌+◌, ◌<◌, ◌≤◌, List, [], ◌∷◌, map, length, get_or, take, sym, ap, ◌∙◌, inl, inr, zero-add, arith}
-use Rattle.std.specs.List.{AllByRecursion}
-use Rattle.std.proofs.lemmas.List.{length-map, get_or-map, length-take-le, get_or-take}
+use Rattle.std.proofs.Common.{◌≡◌, ℕ, zero, suc, ◌+◌, ◌-◌, ◌<◌, ◌≤◌, List, [], ◌∷◌, map, length, get_or, take, drop, sym, ap, ◌∙◌, inl, inr, zero-add, arith}
+use Rattle.std.specs.List.{AllByRecursion, between}
+use Rattle.std.proofs.lemmas.List.{length-map, get_or-map, length-take-le, get_or-take, get_or_past}
 use Rattle.std.proofs.ByRecursion.{All-get_or, All-from_get_or}
 use Rattle.std.proofs.lemmas.List.FromFn.{length-map-range_with_len, get_or-map-range_with_len}
 use Rattle.std.proofs.lemmas.Bool.{cases_lt}
@@ -17,7 +17,6 @@ use Rattle.reading.specs.Bindings.{Bound, held_at, held}
 use Rattle.bench.specs.Bindings.{kept_binding}
 use Rattle.inference.specs.Conclusions.{BoundOnce}
 use Rattle.rules.specs.Images.{Room, Repeats}
-use Rattle.rules.proofs.Clamped.{between_past}
 
 -- what stands for a binding past the end
 abbrev pub no_binding : Binding
@@ -44,6 +43,11 @@ apart_bound (b ∷ bs) h = (
   All-from_get_or (λ (c : Binding). c.variable ≡ b.variable → ⊥) bs no_binding (λ k l e. h 0 (suc k) (omega arith) (omega arith) (sym e)),
   apart_bound bs (λ j k l m e. h (suc j) (suc k) (omega arith) (omega arith) e),
 )
+
+-- a place past the end of the places is 0, and nothing lies up to there
+between_past : (i j : ℕ) (places xs : List ℕ) → length places ≤ j → between i (get_or places j 0) xs ≡ []
+between_past i j places xs h =
+    let q : get_or places j 0 - i ≡ 0 = omega (arith, get_or_past places j 0 h) in ap (λ n. take n (drop i xs)) q
 
 -- a term has words
 some_term_word : (t : Term) → 0 < length (term_words t)

@@ -1,5 +1,5 @@
 -- The term to which a position leads in a literal, found among the words.
-use Rattle.std.proofs.Common.{◌≡◌, ℕ, ◌+◌, ◌-◌, ◌<◌, ◌≤◌, T, List, [], ◌∷◌, ◌++◌, length, take, drop, IfSome, Some, None, Option, sym, refl, ap, ◌∙◌, ap₂, append_assoc, not-suc-le-zero, arith, length-append, length-drop, take-append-drop}
+use Rattle.std.proofs.Common.{◌≡◌, ℕ, ◌+◌, ◌-◌, ◌<◌, ◌≤◌, T, List, [], ◌∷◌, ◌++◌, length, take, drop, Some, None, Option, sym, refl, ap, ◌∙◌, ap₂, append_assoc, not-suc-le-zero, arith, length-append, length-drop, take-append-drop}
 use Rattle.std.proofs.lemmas.List.{take_at}
 use Rattle.logic.specs.declared.row.SymbolRow.{SymbolRow}
 use Rattle.logic.specs.declared.words.Span.{Span}
@@ -25,7 +25,7 @@ front ws xs rest x h e f =
 
 -- words from a found term on begin with its words
 found_is : (o : Option Term) (ws rest : List ℕ) → Some ws ≡ onward o rest → T (is_found o) × (o ≡ Some (the o)) × (ws ≡ term_words (the o) ++ rest)
-found_is None ws rest e = let z : ◌≡◌ {A = ℕ} 0 1 = cc in absurd (omega arith)
+found_is None ws rest e = absurd cc
 found_is (Some u) ws rest e = (tt, refl, cc)
 
 -- the words around a literal put to those around its term
@@ -40,10 +40,10 @@ module _ (rows : List SymbolRow) (ws : List ℕ) (from : ℕ) (l : Literal) (res
 
   -- where no words are reached, the position leads to no term; where some are, the term is found with its end behind it
   pub nowhere : (p : List ℕ) → None ≡ reached (arities rows) (drop from ws) p → Leads l p → ⊥
-  nowhere [] n h = let z : ◌≡◌ {A = ℕ} 0 1 = cc in omega arith
+  nowhere [] n h = cc
   nowhere (k ∷ p) n h =
       let f : None ≡ Some (term_words h.0 ++ (behind_in l k p ++ rest)) = n ∙ reach k p ∙ ap (λ o. onward o (behind_in l k p ++ rest)) h.1 in
-      let z : ◌≡◌ {A = ℕ} 0 1 = cc in omega arith
+      cc
 
   pub somewhere : (p : List ℕ) (x y : ℕ) → 0 < length p → x ≤ length ws → Some (drop x ws) ≡ reached (arities rows) (drop from ws) p
       → ((u : Term) (more : List ℕ) → LawfulTerm rows u → drop x ws ≡ term_words u ++ more → y ≡ x + length (term_words u))
@@ -70,12 +70,7 @@ module _ (rows : List SymbolRow) (ws : List ℕ) (from : ℕ) (l : Literal) (res
             ∙ ap (λ xs. take from ws ++ (xs ++ rest)) (sym (put_words new l m p f.0));
       }
 
--- a search that was given up
-pub none_within : (r : Option Span) (ws : List ℕ) → r ≡ None → IfSome r (λ s. (s.start ≤ s.end) × (s.end ≤ length ws))
-none_within None ws e = tt
-none_within (Some s) ws e = let z : ◌≡◌ {A = ℕ} 0 1 = cc in absurd (omega arith)
-
 pub none_led : (rows : List SymbolRow) (l : Literal) (p ws : List ℕ) (from : ℕ) (rest : List ℕ) (r : Option Span) → r ≡ None → (Leads l p → ⊥)
     → Led rows l p ws from rest r
 none_led rows l p ws from rest None e h = h
-none_led rows l p ws from rest (Some s) e h = let z : ◌≡◌ {A = ℕ} 0 1 = cc in absurd (omega arith)
+none_led rows l p ws from rest (Some s) e h = absurd cc

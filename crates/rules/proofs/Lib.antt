@@ -5,14 +5,12 @@ pub mod Reflected
 pub mod Replaced
 pub mod Numbered
 pub mod Flipped
-pub mod Stepped
 pub mod Reached
 pub mod Led
 pub mod Paramodulated
 pub mod Opposing
 pub mod ResolveAsked
 pub mod Imaged
-pub mod Clamped
 pub mod Seen
 pub mod HeldBindings
 pub mod InstanceWords

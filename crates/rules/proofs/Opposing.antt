@@ -1,5 +1,5 @@
 -- Literals with the same atom and opposite signs, by their words.
-use Rattle.std.proofs.Common.{◌≡◌, ℕ, ◌+◌, ◌≤◌, Bool, true, false, cond, not, ◌⊎◌, List, [], ◌∷◌, ◌++◌, length, Decides, sym, refl, ap, ◌∙◌, ap₂, inl, inr, arith}
+use Rattle.std.proofs.Common.{◌≡◌, ℕ, ◌+◌, ◌≤◌, Bool, true, false, cond, not, ◌⊎◌, List, [], ◌∷◌, ◌++◌, Decides, sym, refl, ap, ◌∙◌, ap₂, inl, inr, arith}
 use Rattle.std.proofs.lemmas.Bool.Decides.{Decides-like}
 use Rattle.logic.specs.declared.row.SymbolRow.{SymbolRow}
 use Rattle.logic.specs.Syntax.{Atom, Literal, Clause, predicate, equal}
@@ -26,10 +26,6 @@ words_are : (n : ℕ) (a : Atom) → atom_words n a ≡ (n + head_of a) ∷ tail
 words_are n (predicate p ts) = refl
 words_are n (equal s t) = refl
 
--- a literal has words
-pub some_words : (l : Literal) → length (literal_words l) ≡ 0 → ⊥
-some_words l e = let x : length ((sign l + head_of l.atom) ∷ tail_of l.atom) ≡ 0 = ap length (sym (words_are (sign l) l.atom)) ∙ e in omega arith
-
 -- ── Signs ──
 
 -- two heads differ by the mark of negation alone
@@ -43,10 +39,10 @@ signs_from false true x y h k q = (omega arith, refl)
 signs_from false false x y h k q = absurd (omega arith)
 
 signs_to : (s r : Bool) (x : ℕ) → s ≡ not r → SignsDiffer (cond s negation 0 + x) (cond r negation 0 + x)
-signs_to true true x e = absurd (let z : ◌≡◌ {A = ℕ} 0 1 = cc in omega arith)
+signs_to true true x e = absurd cc
 signs_to true false x e = inr (omega arith)
 signs_to false true x e = inl (omega arith)
-signs_to false false x e = absurd (let z : ◌≡◌ {A = ℕ} 0 1 = cc in omega arith)
+signs_to false false x e = absurd cc
 
 module _ (rows : List SymbolRow) where
   head_small : (a : Atom) → LawfulAtom rows a → head_of a ≤ 512
@@ -82,10 +78,6 @@ module _ (rows : List SymbolRow) where
         let s = signs_from l.negated m.negated (head_of l.atom) (head_of m.atom) (head_small l.atom g) (head_small m.atom h) (rw (p, q) at d) in
         let u : tail_of l.atom ≡ tail_of m.atom = cc (one, other) in
         record { atom = atom_injective l.atom m.atom g h s.0 u; signs = s.1 }
-
-    -- the heads do not differ by the mark alone
-    pub not_opposed : (SignsDiffer a b → ⊥) → Opposed l m → ⊥
-    not_opposed n o = n (to_words o).0
 
     -- the heads do, and the arguments are compared
     pub opposed_by_tails : (r : Bool) → SignsDiffer a b → Decides r (xs ≡ ys) → Decides r (Opposed l m)

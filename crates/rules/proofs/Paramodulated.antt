@@ -30,8 +30,9 @@ use Rattle.rules.specs.Sides.{Headed, Parted}
 use Rattle.rules.specs.Places.{Found, Led}
 use Rattle.rules.specs.Pieces.{Allows}
 use Rattle.rules.proofs.Concluded.{answered_last, some_found, none_found}
-use Rattle.rules.proofs.Located.{Around, around, literal_lawful, allowed_by_words}
-use Rattle.rules.proofs.Numbered.{Finds, found_at, not_found}
+use Rattle.rules.proofs.Located.{Around, allowed_by_words}
+use Rattle.rules.proofs.Numbered as numbered
+use Rattle.rules.proofs.Numbered.{Finds}
 use Rattle.inference.proofs.Order.{paramod_answers}
 use Rattle.rules.proofs.Parted.{as_equation, sides_lawful, equality_decides, sides_behind}
 use Rattle.rules.proofs.Replaced.{set_words, formed_put}
@@ -79,9 +80,6 @@ module _ (q : Question) (s : Asked) (shown : Shows s q) where
   abbrev c : Clause
   c = s.conclusion
 
-  pub no_first : (g : RuleFault) → Finds q 0 wi (Err g) → answered (Err g) ≡ paramod i j a b p c
-  no_first g f = not_found q s shown 0 wi g shown.first f (paramod i j a b p c) (paramod_answers i j a b p c)
-
   module _ (ip : Span) (fi : Finds q 0 wi (Ok ip)) where
     -- the words of the equality, and where they stand
     abbrev lit : List ℕ
@@ -91,16 +89,16 @@ module _ (q : Question) (s : Asked) (shown : Shows s q) where
     la = literal i a
 
     stands_i : Around wi i a ip
-    stands_i = around wi i a ip shown.first (found_at q s shown 0 wi (Ok ip) shown.first fi)
+    stands_i = numbered.stands q s shown 0 wi shown.first ip fi
 
     lawful_a : LawfulAtom rows la.atom
-    lawful_a = literal_lawful rows i a (premise_lawful s q shown 0) stands_i.has
+    lawful_a = numbered.lawful q s shown 0 wi shown.first ip fi
 
     spelt : lit ≡ literal_words la ++ []
     spelt = stands_i.here ∙ sym (append-nil (literal_words la))
 
     pub no_second : (g : RuleFault) → Finds q 1 wj (Err g) → answered (Err g) ≡ paramod i j a b p c
-    no_second g f = not_found q s shown 1 wj g shown.second f (paramod i j a b p c) ((paramod_answers i j a b p c).then stands_i.has)
+    no_second g f = numbered.not_found q s shown 1 wj shown.second g f (paramod i j a b p c) ((paramod_answers i j a b p c).then stands_i.has)
 
     module _ (jp : Span) (fj : Finds q 1 wj (Ok jp)) where
       abbrev lb : Literal
@@ -110,13 +108,13 @@ module _ (q : Question) (s : Asked) (shown : Shows s q) where
       rest = clause_words (drop b j)
 
       lies_j : Lies j b jp
-      lies_j = found_at q s shown 1 wj (Ok jp) shown.second fj
+      lies_j = numbered.found_at q s shown 1 wj shown.second (Ok jp) fj
 
       stands_j : Around wj j b jp
-      stands_j = around wj j b jp shown.second lies_j
+      stands_j = numbered.stands q s shown 1 wj shown.second jp fj
 
       lawful_b : LawfulAtom rows lb.atom
-      lawful_b = literal_lawful rows j b (premise_lawful s q shown 1) stands_j.has
+      lawful_b = numbered.lawful q s shown 1 wj shown.second jp fj
 
       pub no_equality : Decides false (Headed equality_word lit) → fault 23 ≡ paramod i j a b p c
       no_equality d =

@@ -1,8 +1,8 @@
 -- The head and the sides of an equality, on words and on trees.
-use Rattle.std.proofs.Common.{◌≡◌, ℕ, ◌+◌, ◌-◌, ◌<◌, Bool, true, false, cond, eqb, ◌⊎◌, List, [], ◌∷◌, ◌++◌, length, get_or, take, drop, Decides, sym, refl, ap, ◌∙◌, subst, ap₂, inl, inr, ⊎_elim, append_assoc, append-nil, not-suc-le-zero, arith, drop-drop}
+use Rattle.std.proofs.Common.{◌≡◌, ℕ, ◌+◌, ◌-◌, Bool, true, false, cond, ◌⊎◌, List, [], ◌∷◌, ◌++◌, length, take, drop, Decides, sym, refl, ap, ◌∙◌, subst, ap₂, inl, inr, ⊎_elim, append_assoc, append-nil, arith, drop-drop}
 use Rattle.std.specs.List.{between}
 use Rattle.std.proofs.lemmas.List.{take_at, drop_at}
-use Rattle.std.proofs.lemmas.Bool.Decides.{Decides-eqb, Decides-like}
+use Rattle.std.proofs.lemmas.Bool.Decides.{Decides-like}
 use Rattle.logic.specs.declared.row.SymbolRow.{SymbolRow}
 use Rattle.logic.specs.Syntax.{Term, Atom, Literal, predicate, equal}
 use Rattle.logic.specs.Words.{equality_word, negation, term_words, atom_words, literal_words}
@@ -11,14 +11,6 @@ use Rattle.inference.specs.Conclusions.{IsEquality, IsEquation}
 use Rattle.rules.specs.Sides.{Headed, Parted}
 
 -- ── Words ──
-
--- a test of the first word
-pub headed_decides : (ws : List ℕ) (h : ℕ) → 0 < length ws → Decides (eqb (get_or ws 0 0) h) (Headed h ws)
-headed_decides [] h l = absurd (not-suc-le-zero l)
-headed_decides (w ∷ ws) h l = (
-  λ e. (ws, ap (λ x. x ∷ ws) ((Decides-eqb w h).0 e)),
-  λ p. (Decides-eqb w h).1 (let q : w ≡ h = cc p.1 in q),
-)
 
 -- a part of the words, by what stands from its ends on
 pub cut : (ws xs rest : List ℕ) (from to : ℕ) → drop from ws ≡ xs ++ rest → to ≡ from + length xs → (between from to ws ≡ xs) × (drop to ws ≡ rest)

@@ -24,8 +24,9 @@ use Rattle.rules.specs.Pieces.{Allows}
 use Rattle.rules.specs.Six.{resolve_rule}
 use Rattle.inference.proofs.Order.{resolve_answers}
 use Rattle.rules.proofs.Concluded.{answered_last}
-use Rattle.rules.proofs.Located.{Around, around, without_formed, literal_lawful, allowed_by_words, without_words}
-use Rattle.rules.proofs.Numbered.{Finds, found_at, not_found}
+use Rattle.rules.proofs.Located.{Around, without_formed, allowed_by_words, without_words}
+use Rattle.rules.proofs.Numbered as numbered
+use Rattle.rules.proofs.Numbered.{Finds}
 
 module _ (q : Question) (s : Asked) (h : Shows s q) where
   abbrev i : Clause
@@ -40,23 +41,17 @@ module _ (q : Question) (s : Asked) (h : Shows s q) where
   abbrev b : ℕ
   b = literal_number s 1
 
-  pub none_first : (g : RuleFault) → Finds q 0 q.first.now (Err g) → answered (Err g) ≡ resolve_rule.answers s
-  none_first g f = not_found q s h 0 q.first.now g h.first f (resolve_rule.answers s) (resolve_answers i j a b s.conclusion)
-
-  -- the literal of the first premise stands there
-  first_stands : (x : Span) → Finds q 0 q.first.now (Ok x) → Around q.first.now i a x
-  first_stands x f = around q.first.now i a x h.first (found_at q s h 0 q.first.now (Ok x) h.first f)
-
   pub none_second : (x : Span) → Finds q 0 q.first.now (Ok x) → (g : RuleFault) → Finds q 1 q.second.now (Err g) → answered (Err g) ≡ resolve_rule.answers s
   none_second x f g k =
-      not_found q s h 1 q.second.now g h.second k (resolve_rule.answers s) ((resolve_answers i j a b s.conclusion).then (first_stands x f).has)
+      numbered.not_found q s h 1 q.second.now h.second g k (resolve_rule.answers s)
+      ((resolve_answers i j a b s.conclusion).then (numbered.stands q s h 0 q.first.now h.first x f).has)
 
   module _ (x y : Span) (f : Finds q 0 q.first.now (Ok x)) (g : Finds q 1 q.second.now (Ok y)) where
     ai : Around q.first.now i a x
-    ai = first_stands x f
+    ai = numbered.stands q s h 0 q.first.now h.first x f
 
     aj : Around q.second.now j b y
-    aj = around q.second.now j b y h.second (found_at q s h 1 q.second.now (Ok y) h.second g)
+    aj = numbered.stands q s h 1 q.second.now h.second y g
 
     -- the test on the words of the two literals
     abbrev pub OpposedTest : Bool → Type 0
@@ -66,24 +61,26 @@ module _ (q : Question) (s : Asked) (h : Shows s q) where
 
     opposed_literals : (r : Bool) → OpposedTest r → Decides r (Opposed (literal i a) (literal j b))
     opposed_literals r t =
-        t q.rows.now (literal i a) (literal j b) (literal_lawful q.rows.now i a (premise_lawful s q h 0) ai.has)
-        (literal_lawful q.rows.now j b (premise_lawful s q h 1) aj.has) ai.here aj.here
+        t q.rows.now (literal i a) (literal j b) (numbered.lawful q s h 0 q.first.now h.first x f) (numbered.lawful q s h 1 q.second.now h.second y g)
+        ai.here aj.here
 
     -- the two literals are not opposed
     pub opposed_not : OpposedTest false → fault 22 ≡ resolve_rule.answers s
     opposed_not t =
         sym ((((resolve_answers i j a b s.conclusion).then ai.has).then aj.has).otherwise (not_from_Decides false (opposed_literals false t) refl))
 
-    words_are : clause_words (resolvent i j a b)
-        ≡ take x.start q.first.now ++ (between x.end (length q.first.now) q.first.now ++ (take y.start q.second.now ++ (between y.end (length q.second.now) q.second.now ++ [])))
+    -- the pieces of the resolvent
+    abbrev pub pieces : List ℕ
+    pieces =
+        take x.start q.first.now ++ (between x.end (length q.first.now) q.first.now ++ (take y.start q.second.now ++ (between y.end (length q.second.now) q.second.now ++ [])))
+
+    words_are : clause_words (resolvent i j a b) ≡ pieces
     words_are =
         words_append (without i a) (without j b) ∙ ap₂ ◌++◌ (without_words _ i a x ai) (without_words _ j b y aj)
         ∙ simp (append_assoc, append-nil)
 
     -- they are, and the conclusion is compared
-    pub concluded : OpposedTest true → (r : Result (Unit {0}) RuleFault)
-        → Allows r (q.conclusion.now ≡ take x.start q.first.now ++ (between x.end (length q.first.now) q.first.now ++ (take y.start q.second.now ++ (between y.end (length q.second.now) q.second.now ++ []))))
-        → answered r ≡ resolve_rule.answers s
+    pub concluded : OpposedTest true → (r : Result (Unit {0}) RuleFault) → Allows r (q.conclusion.now ≡ pieces) → answered r ≡ resolve_rule.answers s
     concluded t r k =
         answered_last (resolve_rule.answers s) ((((resolve_answers i j a b s.conclusion).then ai.has).then aj.has).then ((opposed_literals true t).0 refl)) r
         (allowed_by_words q.rows.now q.conclusion.now s.conclusion (resolvent i j a b) h.lawful

@@ -1,6 +1,7 @@
 -- Each of the six inference rules keeps the law of the bench.
-use Rattle.std.specs.Prelude.{◌≡◌, ℕ, true, false, List, [], ◌∷◌, length, slice_index_or}
-use Rattle.std.proofs.Common.{subst, inl, arith}
+use Rattle.std.specs.Prelude.{◌≡◌, ℕ, Bool, true, false, ◌&&◌, nat_le, List, [], ◌∷◌, length, slice_index_or}
+use Rattle.std.proofs.Common.{refl, subst, inl, arith}
+use Rattle.std.proofs.lemmas.Bool.{leb-true}
 use Rattle.logic.specs.Syntax.{Clause}
 use Rattle.inference.specs.Answers.{fault, Demand, ◌otherwise◌, answer}
 use Rattle.inference.specs.Law.{Follows}
@@ -22,36 +23,22 @@ use Rattle.inference.proofs.ReflexiveSound.{reflexive_is_sound}
 
 -- ── The numbers of faults ──
 
--- each demand has a number of inference rules
-abbrev AllNumbered : List Demand → Type 0
-AllNumbered [] = Unit {0}
-AllNumbered ((b otherwise f) ∷ ds) = RuleNumber f × AllNumbered ds
+-- each demand has a number from 21 to 27
+abbrev all_numbered : List Demand → Bool
+all_numbered [] = true
+all_numbered ((b otherwise f) ∷ ds) = (nat_le 21 f && nat_le f 27) && all_numbered ds
 
-numbered_by : (ds : List Demand) → AllNumbered ds → (f : ℕ) → answer ds ≡ fault f → RuleNumber f
-numbered_by [] n f e = absurd (let z : ◌≡◌ {A = ℕ} 0 1 = cc in omega arith)
-numbered_by ((true otherwise g) ∷ ds) n f e = numbered_by ds n.1 f e
-numbered_by ((false otherwise g) ∷ ds) n f e = subst RuleNumber (let q : g ≡ f = cc in q) n.0
+parts : (a b : Bool) → (a && b) ≡ true → (a ≡ true) × (b ≡ true)
+parts true b h = (refl, h)
+parts false b h = absurd cc
 
-n21 : RuleNumber 21
-n21 = inl (omega arith, omega arith)
-
-n22 : RuleNumber 22
-n22 = inl (omega arith, omega arith)
-
-n23 : RuleNumber 23
-n23 = inl (omega arith, omega arith)
-
-n24 : RuleNumber 24
-n24 = inl (omega arith, omega arith)
-
-n25 : RuleNumber 25
-n25 = inl (omega arith, omega arith)
-
-n26 : RuleNumber 26
-n26 = inl (omega arith, omega arith)
-
-n27 : RuleNumber 27
-n27 = inl (omega arith, omega arith)
+numbered_by : (ds : List Demand) → all_numbered ds ≡ true → (f : ℕ) → answer ds ≡ fault f → RuleNumber f
+numbered_by [] n f e = absurd cc
+numbered_by ((true otherwise g) ∷ ds) n f e = numbered_by ds (parts (nat_le 21 g && nat_le g 27) (all_numbered ds) n).1 f e
+numbered_by ((false otherwise g) ∷ ds) n f e =
+    let p = parts (nat_le 21 g) (nat_le g 27) (parts (nat_le 21 g && nat_le g 27) (all_numbered ds) n).0 in
+    let q : g ≡ f = cc in
+    subst RuleNumber q (inl (leb-true 21 g p.0, leb-true g 27 p.1))
 
 -- ── As many premises as the rule takes ──
 
@@ -77,7 +64,7 @@ instantiate_keeps =
     record {
       premises = omega arith;
       literals = omega arith;
-      numbered = λ s. numbered_by (instantiate_demands (premise s 0) s.bindings s.conclusion) (n26, (n27, tt));
+      numbered = λ s. numbered_by (instantiate_demands (premise s 0) s.bindings s.conclusion) refl;
       law = λ s n e. one_given s.premises s.conclusion n (instantiate_is_sound (premise s 0) s.bindings s.conclusion e);
     }
 
@@ -86,7 +73,7 @@ resolve_keeps =
     record {
       premises = omega arith;
       literals = omega arith;
-      numbered = λ s. numbered_by (resolve_demands (premise s 0) (premise s 1) (literal_number s 0) (literal_number s 1) s.conclusion) (n21, (n21, (n22, (n27, tt))));
+      numbered = λ s. numbered_by (resolve_demands (premise s 0) (premise s 1) (literal_number s 0) (literal_number s 1) s.conclusion) refl;
       law = λ s n e. two_given s.premises s.conclusion n (resolve_is_sound (premise s 0) (premise s 1) (literal_number s 0) (literal_number s 1) s.conclusion e);
     }
 
@@ -95,7 +82,7 @@ paramod_keeps =
     record {
       premises = omega arith;
       literals = omega arith;
-      numbered = λ s. numbered_by (paramod_demands (premise s 0) (premise s 1) (literal_number s 0) (literal_number s 1) s.position s.conclusion) (n21, (n21, (n23, (n24, (n25, (n27, tt))))));
+      numbered = λ s. numbered_by (paramod_demands (premise s 0) (premise s 1) (literal_number s 0) (literal_number s 1) s.position s.conclusion) refl;
       law = λ s n e. two_given s.premises s.conclusion n (paramod_is_sound (premise s 0) (premise s 1) (literal_number s 0) (literal_number s 1) s.position s.conclusion e);
     }
 
@@ -104,7 +91,7 @@ flip_keeps =
     record {
       premises = omega arith;
       literals = omega arith;
-      numbered = λ s. numbered_by (flip_demands (premise s 0) (literal_number s 0) s.conclusion) (n21, (n23, (n27, tt)));
+      numbered = λ s. numbered_by (flip_demands (premise s 0) (literal_number s 0) s.conclusion) refl;
       law = λ s n e. one_given s.premises s.conclusion n (flip_is_sound (premise s 0) (literal_number s 0) s.conclusion e);
     }
 
@@ -113,7 +100,7 @@ propositional_keeps =
     record {
       premises = omega arith;
       literals = omega arith;
-      numbered = λ s. numbered_by (propositional_demands (premise s 0) s.conclusion) (n27, tt);
+      numbered = λ s. numbered_by (propositional_demands (premise s 0) s.conclusion) refl;
       law = λ s n e. one_given s.premises s.conclusion n (propositional_is_sound (premise s 0) s.conclusion e);
     }
 
@@ -122,6 +109,6 @@ reflexive_keeps =
     record {
       premises = omega arith;
       literals = omega arith;
-      numbered = λ s. numbered_by (reflexive_demands s.conclusion) (n27, tt);
+      numbered = λ s. numbered_by (reflexive_demands s.conclusion) refl;
       law = λ s n e. none_given s.premises s.conclusion n (reflexive_is_sound s.conclusion e);
     }

@@ -10,7 +10,7 @@ use crate::bound::{binding_of, bound_twice, bound_variables, bound_words};
 use crate::pieces::{allow_if, behind};
 use bench::{Inference, Question, Rule, RuleFault};
 use reading::Bindings;
-use std::slice::from_ref;
+use std::slice;
 
 /// The inference rule `instantiate`.
 #[derive(Clone, Copy)]
@@ -28,7 +28,7 @@ fn image<'a>(word: &'a u32, bindings: &'a Bindings) -> &'a [u32]
 {
     match binding_of(bound_variables(bindings), *word) {
         Some(k) => bound_words(bindings, k),
-        None => from_ref(word),
+        None => slice::from_ref(word),
     }
 }
 
