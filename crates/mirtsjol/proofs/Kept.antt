@@ -11,8 +11,9 @@ use Rattle.reading.proofs.Covered.{HaltCovers}
 use Rattle.lines.specs.Rules.{Ruled, rule_line}
 use Rattle.lines.proofs.Covered.{RuledCovers, rule_covers}
 use Rattle.spelling.proofs.RulesRead.{rule_read, settled_after}
-use Rattle.mirtsjol.specs.declared.judge.Answer.{Answer}
-use Rattle.mirtsjol.specs.Verdicts.{Judged, reads, refuses, no_room, judged, after_answer, line_judged}
+use Rattle.mirtsjol.specs.declared.refusal.Refusal.{Refusal}
+use Rattle.mirtsjol.specs.Refusals.{no_room}
+use Rattle.mirtsjol.specs.Verdicts.{Judged, reads, refuses, judged, after_answer, line_judged}
 
 -- what a judgement leaves of n symbols in these rows
 pub record Keeps (n : ℕ) (rows : List SymbolRow) (j : Judged) : Type 0 where
@@ -44,5 +45,5 @@ module _ (bs out : List ℕ) (n : ℕ) (rows : List SymbolRow) (settled : Fixed 
   line_keeps : Keeps n rows (line_judged bs out n rows)
   line_keeps = judged_keeps (rule_line bs out n rows) refl (rule_covers bs out n rows)
 
-  pub answer_keeps : (a : Answer) (words : List ℕ) (m : ℕ) (left : List SymbolRow) → after_answer a words m left ≡ line_judged bs out n rows → Keeps n rows (after_answer a words m left)
+  pub answer_keeps : (a : Result ℕ Refusal) (words : List ℕ) (m : ℕ) (left : List SymbolRow) → after_answer a words m left ≡ line_judged bs out n rows → Keeps n rows (after_answer a words m left)
   answer_keeps a words m left is = subst (Keeps n rows) (sym is) line_keeps

@@ -1,5 +1,5 @@
 pub mod Ends
-pub mod Spaces
+pub mod Cutting
 pub mod Stores
 pub mod Kept
 pub mod Spelled

@@ -8,7 +8,8 @@ use Rattle.reading.specs.States.{Halt}
 use Rattle.lines.specs.Rules.{Ruled, rule_line}
 use Rattle.spelling.specs.Spelling.{Counted, stored, rule_read}
 use Rattle.spelling.proofs.Exact.{read_is_spelled, spelled_is_read}
-use Rattle.mirtsjol.specs.Verdicts.{Judged, Verdict, reads, refuses, no_room, judged}
+use Rattle.mirtsjol.specs.Refusals.{no_room}
+use Rattle.mirtsjol.specs.Verdicts.{Judged, Verdict, reads, refuses, judged}
 use Rattle.mirtsjol.specs.Spelled.{SpellsWords, AnswersWhatIsSpelled}
 
 not_refused : {n p : ℕ} {ws : List ℕ} → refuses n p ≡ reads ws → ⊥

@@ -1,4 +1,6 @@
 pub mod Cuts
+pub mod Lines
+pub mod Refusals
 pub mod Verdicts
 pub mod Texts
 pub mod Sessions

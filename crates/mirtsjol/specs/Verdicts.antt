@@ -4,8 +4,8 @@ use Rattle.logic.specs.declared.row.SymbolRow.{SymbolRow}
 use Rattle.tokens.specs.Faults.{fault_number, fault_place}
 use Rattle.reading.specs.States.{Halt}
 use Rattle.lines.specs.Rules.{Ruled, rule_line}
-use Rattle.mirtsjol.specs.declared.judge.Answer.{Answer}
-use Rattle.mirtsjol.specs.declared.judge.Answer.TheVariants.{Words, Refused}
+use Rattle.mirtsjol.specs.declared.refusal.Refusal.{Refusal}
+use Rattle.mirtsjol.specs.Refusals.{no_room, refusal_number, refusal_place}
 
 -- the words of a line's clause, or the number and the place of its refusal
 pub data Verdict : Type 0 where
@@ -19,13 +19,9 @@ pub record Judged : Type 0 where
   pub rows : List SymbolRow
 
 -- the words that are counted are those that stand first in the store
-abbrev pub verdict : Answer → List ℕ → Verdict
-verdict (Words n) out = reads (take n out)
-verdict (Refused number place) out = refuses number place
-
--- the words do not all fit the store
-abbrev pub no_room : ℕ
-no_room = 40
+abbrev pub verdict : Result ℕ Refusal → List ℕ → Verdict
+verdict (Ok n) out = reads (take n out)
+verdict (Err r) out = refuses (refusal_number r) (refusal_place r)
 
 -- what a reading from n symbols with a store of so many words comes to; where the line is refused, n are counted again
 abbrev pub judged : ℕ → ℕ → Result Ruled Halt → Judged
@@ -40,5 +36,10 @@ abbrev pub line_judged : List ℕ → List ℕ → ℕ → List SymbolRow → Ju
 line_judged bs out n rows = judged n (length out) (rule_line bs out n rows)
 
 -- what the code has answered
-abbrev pub after_answer : Answer → List ℕ → ℕ → List SymbolRow → Judged
+abbrev pub after_answer : Result ℕ Refusal → List ℕ → ℕ → List SymbolRow → Judged
 after_answer a out n rows = record { verdict = verdict a out; symbols = n; rows = rows }
+
+-- how many symbols are counted when a refusal has put back those that were counted before it
+abbrev pub put_back : Result ℕ Refusal → ℕ → ℕ → ℕ
+put_back (Ok n) before now = now
+put_back (Err r) before now = before

@@ -1,32 +1,41 @@
 //! The answer to a line.
 ghost use Rattle.std.specs.Prelude.{◌≡◌};
-ghost use Rattle.mirtsjol.specs.Verdicts.{line_judged, after_answer};
+ghost use Rattle.mirtsjol.specs.Verdicts.{line_judged, after_answer, put_back};
 
+use crate::refusal::Refusal;
 use lines::read_rule;
 use logic::SymbolRow;
 
-/// The refusal of a clause whose words do not all fit the store.
-const NO_ROOM: u32 = 40;
-
-/// The answer to a line.
-#[derive(Clone, Copy)]
-pub enum Answer {
-    /// The line reads: its clause has so many words, which stand first in the word store.
-    Words(usize),
-    /// The line is refused, with the refusal's number and place.
-    Refused(u32, usize),
+/// Reads a rule line whose words find room: how many they are, first in the store.
+fn read(
+    line: &[u8],
+    rows: &mut [SymbolRow],
+    symbols: &mut usize,
+    words: &mut [u32],
+) -> Result<usize, Refusal>
+    ensures { after_answer result words.new (put_back result symbols.old symbols.new) rows.new ≡ line_judged line.now words.old symbols.old rows.old }
+{
+    let rule = read_rule(line, rows, symbols, words)?;
+    if rule.words > words.len() {
+        return Err(Refusal::NoRoom(rule.place));
+    }
+    Ok(rule.words)
 }
 
-/// Reads a rule line; where it is refused, the symbols are counted as before.
-pub fn judge(line: &[u8], rows: &mut [SymbolRow], symbols: &mut usize, words: &mut [u32]) -> Answer
+/// The answer to a line: how many words its clause has, which stand first in the store, or why it is refused. Where it is
+/// refused, the symbols are counted as before.
+pub fn judge(
+    line: &[u8],
+    rows: &mut [SymbolRow],
+    symbols: &mut usize,
+    words: &mut [u32],
+) -> Result<usize, Refusal>
     ensures { after_answer result words.new symbols.new rows.new ≡ line_judged line.now words.old symbols.old rows.old }
 {
     let before = *symbols;
-    let answer = match read_rule(line, rows, symbols, words) {
-        Ok(rule) if rule.words <= words.len() => return Answer::Words(rule.words),
-        Ok(rule) => Answer::Refused(NO_ROOM, rule.place),
-        Err(fault) => Answer::Refused(fault.number(), fault.place()),
-    };
-    *symbols = before;
+    let answer = read(line, rows, symbols, words);
+    if answer.is_err() {
+        *symbols = before;
+    }
     answer
 }

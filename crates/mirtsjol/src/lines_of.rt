@@ -1,46 +1,61 @@
 //! The lines of an input.
-ghost use Rattle.std.specs.Prelude.{◌≡◌, ◌<◌, ◌≤◌, length, IfSome};
-ghost use Rattle.mirtsjol.specs.Cuts.{line_end as lineEnd, behind as behindOf, line_at, cut};
+ghost use Rattle.std.specs.Prelude.{◌≡◌};
+ghost use Rattle.std.specs.List.{position, before_first, after_first};
+ghost use Rattle.std.specs.Iterator.{YieldsFirstBy, item_count};
+ghost use Rattle.mirtsjol.specs.Cuts.{Newline, lines_of, LinesComeOneByOne};
+ghost use Rattle.mirtsjol.specs.Lines.{lines_left};
 
 /// The byte that ends a line.
-const NEWLINE: u8 = 10;
+const NEWLINE: u8 = b'\n';
 
-/// A line without its newline, and where the next one begins.
-#[derive(Clone, Copy)]
-pub struct Line<'a> {
-    pub bytes: &'a [u8],
-    pub next: usize,
+/// The lines of an input, from the front on, each without its newline.
+#[derive(Drop)]
+pub struct Lines<'a> {
+    rest: &'a [u8],
 }
 
-/// The first place from `from` on that has a newline, or the input's length where none has.
-fn line_end(input: &[u8], from: usize) -> usize
-    ensures { result ≡ lineEnd input.now from }
-{
-    let mut at = from;
-    while at < input.len() && input[at] != NEWLINE {
-        at += 1;
+impl<'a> Lines<'a> {
+    /// The lines of an input; behind a last newline there is none.
+    pub fn new(input: &'a [u8]) -> Lines<'a>
+        ensures all { lines_left result ≡ lines_of input.now }
+        ensures cut { LinesComeOneByOne input.now }
+    {
+        Lines { rest: input }
     }
-    at
 }
 
-/// The place behind the newline at `end`; the input's end has none.
-fn behind(input: &[u8], end: usize) -> usize
-    ensures { result ≡ behindOf input.now end }
+/// The first place that has a newline.
+fn newline_in(bytes: &[u8]) -> Option<usize>
+    ensures { result ≡ position Newline bytes.now }
 {
-    if end < input.len() { end + 1 } else { end }
+    bytes.iter().position(|byte| *byte == NEWLINE)
 }
 
-/// The line that begins at `from`; at the input's end there is none.
-pub fn line_at(input: &[u8], from: usize) -> Option<Line<'_>>
-    ensures is { cut result ≡ line_at input.now from }
-    ensures on { IfSome result (λ l. (from < l.next) × (l.next ≤ length input.now)) }
+/// What stands before the first newline and what stands behind it; without a newline, all and nothing.
+fn first_line(bytes: &[u8]) -> (&[u8], &[u8])
+    ensures line { result.0.now ≡ before_first Newline bytes.now }
+    ensures rest { result.1.now ≡ after_first Newline bytes.now }
 {
-    if from >= input.len() {
-        return None;
+    match newline_in(bytes) {
+        Some(end) => (&bytes[..end], &bytes[end + 1..]),
+        None => (bytes, &[]),
     }
-    let end = line_end(input, from);
-    Some(Line {
-        bytes: &input[from..end],
-        next: behind(input, end),
-    })
+}
+
+impl<'a> Iterator for Lines<'a> {
+    type Item = &'a [u8];
+
+    ghost next_gives = { YieldsFirstBy (λ line. line.now) lines_left };
+
+    ghost remaining = { item_count lines_left };
+
+    #[tactic(auto, using(crate::proofs::Ends::parted))]
+    fn next(&mut self) -> Option<&'a [u8]> {
+        if self.rest.is_empty() {
+            return None;
+        }
+        let (line, rest) = first_line(self.rest);
+        self.rest = rest;
+        Some(line)
+    }
 }

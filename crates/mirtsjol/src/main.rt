@@ -3,18 +3,15 @@
 
 mod judge;
 mod lines_of;
+mod refusal;
 mod session;
 mod text;
 
-ghost use Rattle.std.specs.Prelude.{◌≡◌, codes};
-ghost use Rattle.std.specs.Str.{bytes_eq};
-
-use lines_of::line_at;
+use lines_of::Lines;
 use session::Session;
 use std::io::{BufWriter, Read, Write};
 use std::process::ExitCode;
 use std::{env, fs, io};
-use tokens::same;
 
 /// What the program is called with.
 const USAGE: &str = "usage: mirtsjol read [FILE]";
@@ -36,12 +33,10 @@ fn answer_lines(rt: &HostRuntime, input: &[u8]) -> anyhow::Result<()> {
     let mut session = Session::new(rt.alloc())?;
     let mut out = BufWriter::new(rt.alloc(), rt.stdout())?;
     let mut text = String::new(rt.alloc());
-    let mut from = 0;
-    while let Some(line) = line_at(input, from) {
+    for line in Lines::new(input) {
         text.clear();
-        session.tell(line.bytes, &mut text)?;
+        session.tell(line, &mut text)?;
         out.write_all(text.as_bytes())?;
-        from = line.next;
     }
     out.flush()?;
     Ok(())
@@ -53,23 +48,13 @@ fn read_book(rt: &HostRuntime, file: Option<String>) -> anyhow::Result<()> {
     answer_lines(rt, bytes.as_slice())
 }
 
-/// Whether the word is the command `read`.
-fn is_read(word: &str) -> bool
-    ensures { result ≡ bytes_eq word.now (codes "read") }
-{
-    same(word.as_bytes(), b"read")
-}
-
 /// Runs the command that the arguments ask for; another is a failure, with the usage on standard error.
 fn run(rt: &HostRuntime) -> anyhow::Result<ExitCode> {
     let mut args = env::args(rt)?;
     let _program = args.next();
-    let asked = match args.next() {
-        Some(word) => is_read(word.as_str()),
-        None => false,
-    };
+    let is_read = args.next().is_some_and(|word| word.as_str() == "read");
     let file = args.next();
-    if asked && args.next().is_none() {
+    if is_read && args.next().is_none() {
         read_book(rt, file)?;
         return Ok(ExitCode::SUCCESS);
     }

@@ -1,51 +1,41 @@
 //! Answers as text.
-ghost use Rattle.std.specs.Prelude.{◌≡◌, ◌++◌, take, string_bytes, OnOk};
-ghost use Rattle.mirtsjol.specs.Verdicts.{reads, verdict};
-ghost use Rattle.mirtsjol.specs.Texts.{spaced, told};
+ghost use Rattle.std.specs.Prelude.{◌≡◌, ◌++◌, take, string_bytes, OnOk, Some};
+ghost use Rattle.mirtsjol.specs.Verdicts.{verdict};
+ghost use Rattle.mirtsjol.specs.Texts.{words_text, told};
 
-use crate::judge::Answer;
+use crate::refusal::Refusal;
 use std::fmt;
+
+/// The words of a clause, as text.
+#[derive(Clone, Copy)]
+struct Words<'a>(&'a [u32]);
+
+impl fmt::Display for Words<'_> {
+    ghost output = { λ words. Some (words_text words.0.now) };
+
+    fn fmt<W: fmt::Write>(&self, f: &mut fmt::Formatter<W>) -> fmt::Result {
+        write!(f, "words")?;
+        for word in self.0 {
+            write!(f, " {word}")?;
+        }
+        Ok(())
+    }
+}
 
 /// The first `count` words, or all where there are no more.
 fn first(words: &[u32], count: usize) -> &[u32]
     ensures { result.now ≡ take count words.now }
 {
-    if count < words.len() {
-        &words[0..count]
-    } else {
-        words
-    }
-}
-
-/// Adds each number behind a space.
-fn add_numbers(text: &mut String, numbers: &[u32]) -> fmt::Result
-    ensures { OnOk result (string_bytes text.new ≡ string_bytes text.old ++ spaced numbers.now) }
-{
-    for number in numbers {
-        write!(text, " {number}")?;
-    }
-    Ok(())
-}
-
-/// Adds the line of an answer that has words.
-fn add_words(text: &mut String, words: &[u32]) -> fmt::Result
-    ensures { OnOk result (string_bytes text.new ≡ string_bytes text.old ++ told (reads words.now)) }
-{
-    write!(text, "words")?;
-    add_numbers(text, words)?;
-    writeln!(text)?;
-    Ok(())
+    &words[..count.min(words.len())]
 }
 
 /// Adds the line of an answer whose words stand first in the store.
-pub fn add_answer(text: &mut String, answer: Answer, store: &[u32]) -> fmt::Result
+pub fn add_answer(text: &mut String, answer: Result<usize, Refusal>, store: &[u32]) -> fmt::Result
     ensures { OnOk result (string_bytes text.new ≡ string_bytes text.old ++ told (verdict answer store.now)) }
 {
     match answer {
-        Answer::Words(count) => add_words(text, first(store, count)),
-        Answer::Refused(number, place) => {
-            writeln!(text, "refused {number} {place}")?;
-            Ok(())
-        }
+        Ok(count) => writeln!(text, "{}", Words(first(store, count)))?,
+        Err(refusal) => writeln!(text, "{refusal}")?,
     }
+    Ok(())
 }

@@ -6,7 +6,8 @@ ghost use Rattle.mirtsjol.specs.Sessions.{word_room, judged_in};
 ghost use Rattle.mirtsjol.specs.Texts.{told};
 ghost use Rattle.mirtsjol.specs.Spelled.{SessionAnswersWhatIsSpelled};
 
-use crate::judge::{Answer, judge};
+use crate::judge::judge;
+use crate::refusal::Refusal;
 use crate::session::Session;
 use crate::text::add_answer;
 use logic::{Kind, NAME_BYTES, SYMBOLS, SymbolRow};
@@ -38,8 +39,8 @@ impl Session {
         })
     }
 
-    /// Reads a line; the words that it answers stand first in the store.
-    fn answer(&mut self, line: &[u8]) -> Answer
+    /// Reads a line: how many words its clause has, which stand first in the store, or why it is refused.
+    fn answer(&mut self, line: &[u8]) -> Result<usize, Refusal>
         ensures is { after_answer result self.new.words.items self.new.symbols self.new.rows.items ≡ judged_in self.old line.now }
         ensures room { (vec_len self.new.words ≡ vec_len self.old.words) × (vec_len self.new.rows ≡ vec_len self.old.rows) }
         ensures kept { take self.old.symbols self.new.rows.items ≡ take self.old.symbols self.old.rows.items }
