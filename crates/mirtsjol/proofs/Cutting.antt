@@ -6,7 +6,7 @@ use Rattle.std.proofs.lemmas.List.Sums.{prefix_len-le-length}
 use Rattle.std.specs.List.{between, prefix_len}
 use Rattle.mirtsjol.specs.Cuts.{Cut, lines_of, line_end, behind, inside}
 use Rattle.mirtsjol.specs.Cuts.{IsFirstFrom, LinesComeOneByOne}
-use Rattle.mirtsjol.proofs.Ends.{parted}
+use Rattle.mirtsjol.proofs.FirstLine.{parted}
 
 module _ (bs : List ℕ) (p e : ℕ) where
   rest_behind : p < length bs → drop (behind bs (p + e)) bs ≡ drop (e + 1) (drop p bs)

@@ -1,5 +1,4 @@
-pub mod Ends
+pub mod FirstLine
 pub mod Cutting
-pub mod Stores
 pub mod Kept
 pub mod Spelled

@@ -49,7 +49,7 @@ impl<'a> Iterator for Lines<'a> {
 
     ghost remaining = { item_count lines_left };
 
-    #[tactic(auto, using(crate::proofs::Ends::parted))]
+    #[tactic(auto, using(crate::proofs::FirstLine::parted))]
     fn next(&mut self) -> Option<&'a [u8]> {
         if self.rest.is_empty() {
             return None;
