@@ -19,10 +19,8 @@ fn refusal(line: &[u8]) -> Option<(u32, usize)> {
     let mut rows = [BLANK; 4];
     let mut words = [0; 4];
     let mut symbols = 0;
-    match read_rule(line, &mut rows, &mut symbols, &mut words) {
-        Ok(_) => None,
-        Err(fault) => Some((fault.number(), fault.place())),
-    }
+    let fault = read_rule(line, &mut rows, &mut symbols, &mut words).err()?;
+    Some((fault.number(), fault.place()))
 }
 
 /// The refusal of a line of this one byte: it ends early, begins with another token, or has a byte of no token.
