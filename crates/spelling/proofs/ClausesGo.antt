@@ -26,11 +26,11 @@ use Rattle.spelling.specs.Appearance.{term_symbols, atom_symbols, clause_symbols
 use Rattle.spelling.specs.Grammar.{SpellsAtom, SpellsLiteral, SpellsLiterals, SpellsClause, an_atom, an_equation, positive, negative, no_literals, more_literals, a_clause}
 use Rattle.spelling.proofs.Answers.{ok_same, bind_ok}
 use Rattle.spelling.proofs.Tables.{within_table}
-use Rattle.spelling.proofs.Streams.{Tokens, wrote_join, wrote_none, wrote_one}
+use Rattle.spelling.proofs.Streams.{Tokens, wrote_join, wrote_one}
 use Rattle.spelling.proofs.Appearing.{appear_split, appear_more}
 use Rattle.spelling.proofs.TermsGrow.{SlotRead, slot_read, some}
 use Rattle.spelling.proofs.HeadsGo.{Final}
-use Rattle.spelling.proofs.TermsGo.{First, first_token, Roomy, roomy_left, roomy_right, Toward, Went, TermDone, BodyDone, ArgsGo, body_read, toward_moved, term_goes, terms_go}
+use Rattle.spelling.proofs.TermsGo.{First, first_token, Roomy, roomy_left, roomy_right, Toward, Went, TermDone, BodyDone, ArgsGo, body_read, toward_moved, went_over, term_goes, terms_go}
 
 -- ── Brackets and words ──
 
@@ -65,7 +65,7 @@ not_reserved : (r : List ℕ) → reserved r ≡ false → bytes_eq r (codes "no
 not_reserved r = by (bytes_eq r (codes "or")) (bytes_eq r (codes "not"))
   where
     by : (a b : Bool) → (a || b) ≡ false → b ≡ false
-    by true b e = let z : ◌≡◌ {A = ℕ} 0 1 = cc in absurd (omega arith)
+    by true b e = cc
     by false b e = e
 
 module _ (bs : List ℕ) (p : Purpose) (first : ℕ) (table : List SymbolRow) (final : Final first table) where
@@ -250,12 +250,6 @@ module _ (bs : List ℕ) (p : Purpose) (first : ℕ) (table : List SymbolRow) (f
       (f.0, f.1, ap is_not f.2 ∙ not_reserved r names.form.free)
   atom_first a (an_equation {ts = ts} x y) there = let f = first_token bs a.pos (equals ∷ ts) there in (f.0, f.1, ap is_not f.2)
 
-  -- a literal behind its opening bracket
-  abbrev LiteralGoes : Literal → List Tok → List Tok → Type 0
-  LiteralGoes l toks us =
-      (a : State) (m : ℕ) → On a → Appear (enters p) a.symbols (atom_symbols l.atom) m → m ≤ length table → Roomy p a.count (length (literal_words l))
-      → Tokens bs a.pos toks → Done (literal bs) a (literal_words l) us m
-
   pub literal_done : {l : Literal} {ts us : List Tok} → SpellsLiteral table l ts us → (a : State) (m : ℕ) → On a → Appear (enters p) a.symbols (atom_symbols l.atom) m
       → m ≤ length table → Roomy p a.count (length (literal_words l)) → (o : Lexed) → lex bs a.pos ≡ Ok o → o.tok ≡ opens → Tokens bs a.pos ts
       → Done (literal bs) (moved a o.end) (literal_words l) us m
@@ -289,13 +283,7 @@ module _ (bs : List ℕ) (p : Purpose) (first : ℕ) (table : List SymbolRow) (f
       by f =
           record {
             b = moved a f.0.end;
-            went =
-                record {
-                  left = f.3;
-                  wrote = wrote_none a (moved a f.0.end) refl refl refl;
-                  symbols = sym e;
-                  toward = toward_moved bs p first table final a f.0.end on;
-                };
+            went = went_over bs p first table final a f.0.end us m on e f.3;
             goes = list_goes l a (Ends f.0.end) (Ok (moved a f.0.end)) (mark_goes bs a (eqb l 0) f.0 closes (Ends f.0.end) f.1 f.2 refl) refl;
           }
 

@@ -1,25 +1,21 @@
 -- The decimal numeral of a number is in form.
-use Rattle.std.proofs.Common.{◌≡◌, ℕ, suc, ◌+◌, ◌-◌, ◌*◌, ◌%◌, ◌^◌, ◌<◌, ◌≤◌, Bool, true, false, cond, ◌||◌, eqb, leb, ◌⊎◌, List, [], ◌∷◌, ◌++◌, length, get_or, decimal as numeral, fold, refl, ap, ◌∙◌, inl, inr, mod-lt, one-add, arith}
+use Rattle.std.proofs.lemmas.List.Sums.{fold-append}
+use Rattle.std.proofs.Common.{◌≡◌, ℕ, suc, ◌+◌, ◌-◌, ◌*◌, ◌%◌, ◌^◌, ◌<◌, ◌≤◌, Bool, true, false, cond, ◌||◌, eqb, leb, ◌⊎◌, List, [], ◌∷◌, length, get_or, decimal as numeral, refl, ap, ◌∙◌, inl, inr, mod-lt, one-add, arith}
 use native.Mathlib.Nat.{mod-add-div}
 use Rattle.std.proofs.lemmas.Bool.Decides.{nat_tests}
-use Rattle.std.proofs.lemmas.Bool.{eq-eqb, le-leb, cases_lt}
+use Rattle.std.proofs.lemmas.Bool.{eq-eqb, le-leb, cases_lt, and_from}
 use Rattle.std.proofs.lemmas.Fmt.{decimal_by_steps, decimal_nonempty, decimal_digit, first_decimal}
 use Rattle.std.specs.List.{prefix_len, AllByRecursion}
 use Rattle.std.proofs.ByRecursion.{All-append}
 use Rattle.logic.specs.Names.{digit, name_byte}
 use Rattle.tokens.specs.Forms.{digits, decimal, value}
 use Rattle.spelling.specs.Grammar.{Numeral}
-use Rattle.spelling.proofs.Answers.{both_true}
 
 abbrev Figures : List ℕ → Type 0
 Figures ds = AllByRecursion (λ b. digit b ≡ true) ds
 
 digit_is : (d : ℕ) → d < 10 → digit (48 + d) ≡ true
 digit_is d h = grind (arith, nat_tests)
-
-value_from : (a : ℕ) (ds : List ℕ) (b : ℕ) → fold (λ n b. n * 10 + (b - 48)) a (ds ++ b ∷ []) ≡ fold (λ n b. n * 10 + (b - 48)) a ds * 10 + (b - 48)
-value_from a [] b = refl
-value_from a (d ∷ ds) b = value_from (a * 10 + (d - 48)) ds b
 
 -- digits only, and worth the number
 abbrev Worth : ℕ → List ℕ → Type 0
@@ -32,7 +28,7 @@ worth n h =
     let small : m % 10 < 10 = mod-lt m (omega arith) in
     let last : 48 + m % 10 - 48 ≡ m % 10 = omega arith in (
       All-append _ ds ((48 + m % 10) ∷ []) q.0 (digit_is (m % 10) small, tt),
-      value_from 0 ds (48 + m % 10) ∙ ap (λ x. x * 10 + (48 + m % 10 - 48)) q.1 ∙ omega (arith, last, mod-add-div m 10),
+      fold-append _ 0 ds ((48 + m % 10) ∷ []) ∙ ap (λ x. x * 10 + (48 + m % 10 - 48)) q.1 ∙ omega (arith, last, mod-add-div m 10),
     ))
     n h
 
@@ -50,7 +46,7 @@ plain n h = by (cases_lt 0 n)
 
     either_left : (a b : Bool) → a ≡ true → (a || b) ≡ true
     either_left true b e = refl
-    either_left false b e = let z : ◌≡◌ {A = ℕ} 0 1 = cc in absurd (omega arith)
+    either_left false b e = cc
 
     by : (0 < n) ⊎ (n ≤ 0) → (eqb (length (numeral n)) 1 || leb 49 (get_or (numeral n) 0 0)) ≡ true
     by (inl some) = either_right _ _ (le-leb 49 (get_or (numeral n) 0 0) (first_decimal n some h))
@@ -58,8 +54,8 @@ plain n h = by (cases_lt 0 n)
 
 pub numeral_form : (n : ℕ) → n < 2 ^ 64 → decimal (numeral n) ≡ true
 numeral_form n h =
-    both_true (digits (numeral n)) (eqb (length (numeral n)) 1 || leb 49 (get_or (numeral n) 0 0))
-    (both_true (leb 1 (length (numeral n))) (eqb (prefix_len digit (numeral n)) (length (numeral n))) (le-leb 1 (length (numeral n)) (decimal_nonempty n h))
+    and_from (digits (numeral n)) (eqb (length (numeral n)) 1 || leb 49 (get_or (numeral n) 0 0))
+    (and_from (leb 1 (length (numeral n))) (eqb (prefix_len digit (numeral n)) (length (numeral n))) (le-leb 1 (length (numeral n)) (decimal_nonempty n h))
     (eq-eqb (prefix_len digit (numeral n)) (length (numeral n)) (leading_all (numeral n) (worth n h).0)))
     (plain n h)
 

@@ -19,7 +19,7 @@ use Rattle.lines.specs.Rules.{Ruled, rule_line}
 use Rattle.spelling.specs.Appearance.{clause_symbols, Appear, PlainRow}
 use Rattle.spelling.specs.Grammar.{SpellsRule, SpellsClause, a_rule}
 use Rattle.spelling.specs.Spelling.{Counted, Extends, SpellsRuleLine, stored, rule_read, RulesAreReadAsSpelled, RulesAreSpelledOneWay, SpelledRulesAreLawful}
-use Rattle.spelling.proofs.Answers.{no_ok, ok_same}
+use Rattle.spelling.proofs.Answers.{ok_same}
 use Rattle.spelling.proofs.Spacing.{tokens_spaced, spaced_tokens, by_run, by_equals, by_close, by_open, by_end}
 use Rattle.spelling.proofs.LawfulSpelled.{lawful_clause}
 use Rattle.spelling.proofs.RulesRead.{RuleRead, rule_read as read-rule}
@@ -31,9 +31,9 @@ not_opens : (run : List ℕ) → class run ≡ opens → ⊥
 not_opens run = by (digit (get_or run 0 0)) (variable_run run)
   where
     by : (a b : Bool) → cond a (number run) (cond b (variable run) (word run)) ≡ opens → ⊥
-    by true b e = let z : ◌≡◌ {A = ℕ} 0 1 = cc in omega arith
-    by false true e = let z : ◌≡◌ {A = ℕ} 0 1 = cc in omega arith
-    by false false e = let z : ◌≡◌ {A = ℕ} 0 1 = cc in omega arith
+    by true b e = cc
+    by false true e = cc
+    by false false e = cc
 
 module _ (bs : List ℕ) (s : ℕ) (l : Lexed) (is : l.tok ≡ opens) where
   abbrev Here : Type 0
@@ -47,14 +47,14 @@ module _ (bs : List ℕ) (s : ℕ) (l : Lexed) (is : l.tok ≡ opens) where
     where
       from_run : (q : Bool) → by_run bs s [] q ≡ Ok l → Here
       from_run true k = other (class (between s (past Run bs s) bs)) (past Run bs s) (not_opens (between s (past Run bs s) bs)) k
-      from_run false k = absurd (no_ok k)
+      from_run false k = cc
 
       from_equals : (q : Bool) → by_equals bs s [] q ≡ Ok l → Here
-      from_equals true k = other equals (s + 1) (λ e. let z : ◌≡◌ {A = ℕ} 0 1 = cc in omega arith) k
+      from_equals true k = other equals (s + 1) (λ e. cc) k
       from_equals false k = from_run (within Run (get_or bs s 0)) k
 
       from_close : (q : Bool) → by_close bs s [] q ≡ Ok l → Here
-      from_close true k = other closes (s + 1) (λ e. let z : ◌≡◌ {A = ℕ} 0 1 = cc in omega arith) k
+      from_close true k = other closes (s + 1) (λ e. cc) k
       from_close false k = from_equals (eqb (get_or bs s 0) 61) k
 
       from_open : (q : Bool) → by_open bs s [] q ≡ Ok l → Here
@@ -62,7 +62,7 @@ module _ (bs : List ℕ) (s : ℕ) (l : Lexed) (is : l.tok ≡ opens) where
       from_open false k = from_close (eqb (get_or bs s 0) 41) k
 
       from_end : (q : Bool) → by_end bs s [] q ≡ Ok l → Here
-      from_end true k = absurd (no_ok k)
+      from_end true k = cc
       from_end false k = from_open (eqb (get_or bs s 0) 40) k
 
 pub bracket_place : (bs : List ℕ) (l : Lexed) → lex bs 0 ≡ Ok l → l.tok ≡ opens → l.end - 1 ≡ prefix_len (within Space) bs
@@ -154,12 +154,14 @@ pub spelled_rules_are_lawful : SpelledRulesAreLawful
 spelled_rules_are_lawful line n rows counted step c table s =
     lawful_clause table (table_settled n rows table counted s.extends) s.extends.few (clause_of s.spelled).2
 
--- the words in a store that holds them
-pub words_stored : (ws : List ℕ) (k : ℕ) → length ws ≤ k → take (length ws) (stored (replicate k 0) ws) ≡ ws
-words_stored ws k h =
-    let long : length (replicate k 0) ≡ k = length-replicate k 0 in
-    let all : take (length (replicate k 0)) ws ≡ ws = ap (λ j. take j ws) long ∙ take_all k ws h in
-    ap (λ xs. take (length ws) (xs ++ drop (length ws) (replicate k 0))) all ∙ take-append_seam ws (drop (length ws) (replicate k 0))
+-- words that a store has room for stand first in it
+pub words_stored : (out ws : List ℕ) → length ws ≤ length out → take (length ws) (stored out ws) ≡ ws
+words_stored out ws h = ap (λ xs. take (length ws) (xs ++ drop (length ws) out)) (take_all (length out) ws h) ∙ take-append_seam ws (drop (length ws) out)
+
+-- words that equal stores hold
+pub words_same : (out ws vs : List ℕ) → length ws ≤ length out → length vs ≤ length out → length ws ≡ length vs → stored out ws ≡ stored out vs → ws ≡ vs
+words_same out ws vs short brief many whole =
+    sym (words_stored out ws short) ∙ ap (take (length ws)) whole ∙ ap (λ j. take j (stored out vs)) many ∙ words_stored out vs brief
 
 module _ (line : List ℕ) (n : ℕ) (rows : List SymbolRow) (counted : Counted n rows) (step step' : ℕ) (c c' : Clause) (table table' : List SymbolRow)
     (s : SpellsRuleLine line n rows step c table) (s' : SpellsRuleLine line n rows step' c' table') where
@@ -179,10 +181,9 @@ module _ (line : List ℕ) (n : ℕ) (rows : List SymbolRow) (counted : Counted 
   one_list : clause_words c ≡ clause_words c'
   one_list =
       let k : ℕ = length (clause_words c) + length (clause_words c') in
-      let many : length (clause_words c) ≡ length (clause_words c') = ap (λ (r : Ruled). r.words) (one_reading k) in
-      let whole : stored (replicate k 0) (clause_words c) ≡ stored (replicate k 0) (clause_words c') = ap (λ (r : Ruled). r.out) (one_reading k) in
-      sym (words_stored (clause_words c) k (omega arith)) ∙ ap (take (length (clause_words c))) whole ∙ ap (λ j. take j (stored (replicate k 0) (clause_words c'))) many
-      ∙ words_stored (clause_words c') k (omega arith)
+      let out : List ℕ = replicate k 0 in
+      let room : length out ≡ k = length-replicate k 0 in
+      words_same out (clause_words c) (clause_words c') (omega arith) (omega arith) (ap (λ (r : Ruled). r.words) (one_reading k)) (ap (λ (r : Ruled). r.out) (one_reading k))
 
   one_clause : c ≡ c'
   one_clause =

@@ -1,6 +1,6 @@
 -- What the reading of a symbol says of its token, and the forms of runs.
 use Rattle.std.proofs.Common.{◌≡◌, ℕ, ◌+◌, ◌<◌, ◌≤◌, Bool, true, false, cond, ◌&&◌, eqb, ltb, leb, List, length, get_or, take, set, Some, None, Ok, Err, Option, sym, refl, ap, subst, arith, length-set}
-use Rattle.std.proofs.lemmas.Bool.{ltb-true, ltb-false, leb-true, eqb-true}
+use Rattle.std.proofs.lemmas.Bool.{ltb-true, ltb-false, leb-true, eqb-true, and_parts}
 use Rattle.logic.specs.Limits as limits
 use Rattle.logic.specs.Names.{letter}
 use Rattle.logic.specs.declared.row.SymbolRow.{SymbolRow}
@@ -15,7 +15,7 @@ use Rattle.reading.specs.declared.purpose.Purpose.{Purpose}
 use Rattle.reading.specs.States.{halt, lift, enters, full}
 use Rattle.reading.specs.Entering.{new_row, with_arity, Met, known, meet, room_for_word, Headed, head, settle}
 use Rattle.spelling.specs.Grammar.{Numeral, SymbolName}
-use Rattle.spelling.proofs.Answers.{no_ok, ok_same, bind_ok, lift_ok, cond_ok, pick_ok, both_left, both_right}
+use Rattle.spelling.proofs.Answers.{ok_same, bind_ok, lift_ok, cond_ok, pick_ok}
 use Rattle.spelling.proofs.Tables.{RowGrows, row_stays, found_below, MetAs, old, new, SettledAs, others_stay, set_here}
 
 -- ── Numerals ──
@@ -27,19 +27,19 @@ numeral_is run figures most at n e =
     let w : value figures ≡ n = ok_same b.1 in
     record {
       short = ltb-false limits.name_bytes (length run) a.0;
-      plain = both_left (decimal figures) (leb (value figures) most) b.0;
+      plain = (and_parts (decimal figures) (leb (value figures) most) b.0).0;
       worth = w;
-      small = subst (λ (x : ℕ). x ≤ most) w (leb-true (value figures) most (both_right (decimal figures) (leb (value figures) most) b.0));
+      small = subst (λ (x : ℕ). x ≤ most) w (leb-true (value figures) most (and_parts (decimal figures) (leb (value figures) most) b.0).1);
     }
 
 -- ── Names ──
 
 pub name_is : (t : Tok) (at : ℕ) (r : List ℕ) → symbol_form t at ≡ Ok r → (t ≡ word r) × SymbolName r
-name_is opens at r e = absurd (no_ok e)
-name_is closes at r e = absurd (no_ok e)
-name_is equals at r e = absurd (no_ok e)
-name_is (number q) at r e = absurd (no_ok e)
-name_is (variable q) at r e = absurd (no_ok e)
+name_is opens at r e = cc
+name_is closes at r e = cc
+name_is equals at r e = cc
+name_is (number q) at r e = cc
+name_is (variable q) at r e = cc
 name_is (word q) at r e =
     let a = cond_ok (reserved q) (Due at) (name_in_form q at) r e in
     let b = cond_ok (ltb limits.name_bytes (length q)) (Long at) _ r a.1 in
@@ -49,8 +49,8 @@ name_is (word q) at r e =
 
 pub kind_is : (j k : Kind) → same_kind j k ≡ true → j ≡ k
 kind_is Function Function e = refl
-kind_is Function Predicate e = let z : ◌≡◌ {A = ℕ} 0 1 = cc in absurd (omega arith)
-kind_is Predicate Function e = let z : ◌≡◌ {A = ℕ} 0 1 = cc in absurd (omega arith)
+kind_is Function Predicate e = cc
+kind_is Predicate Function e = cc
 kind_is Predicate Predicate e = refl
 
 -- ── A symbol that is met ──
@@ -67,8 +67,8 @@ met_is p k name at n rows m short = by (place_of_name (take n rows) name) refl
         let a = pick_ok (enters p) _ (halt (Unknown at) n rows) m h in
         let b = pick_ok (ltb n limits.symbols && ltb n (length rows)) (Ok (record { symbol = n; symbols = n + 1; rows = set rows n (new_row name k) })) (halt (ManySymbols at) n rows) m a.1 in
         subst (MetOf (enters p) n rows name k) (ok_same b.1)
-        (new a.0 e (ltb-true n (length rows) (both_right (ltb n limits.symbols) (ltb n (length rows)) b.0))
-        (ltb-true n limits.symbols (both_left (ltb n limits.symbols) (ltb n (length rows)) b.0)))
+        (new a.0 e (ltb-true n (length rows) (and_parts (ltb n limits.symbols) (ltb n (length rows)) b.0).1)
+        (ltb-true n limits.symbols (and_parts (ltb n limits.symbols) (ltb n (length rows)) b.0).0))
     by (Some s) e h =
         let a = pick_ok (same_kind (row_at rows s).kind k) (Ok (record { symbol = s; symbols = n; rows = rows })) (halt (OtherKind at) n rows) m h in
         subst (MetOf (enters p) n rows name k) (ok_same a.1) (old (found_below name n rows s short e) e (kind_is (row_at rows s).kind k a.0))

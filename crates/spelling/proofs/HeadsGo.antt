@@ -1,6 +1,6 @@
 -- Runs in form are read, a name of the table is met as its symbol, and its arity is settled.
 use Rattle.std.proofs.Common.{◌≡◌, ℕ, ◌+◌, ◌<◌, ◌≤◌, true, cond, ◌&&◌, eqb, ltb, leb, ◌⊎◌, List, ◌∷◌, length, get_or, take, set, Some, None, Ok, Err, sym, refl, ap, ◌∙◌, subst, ap₂, inl, inr, arith, length-set}
-use Rattle.std.proofs.lemmas.Bool.{cond-true, cond-false, cases_eq, cases_lt, lt-ltb, le-ltb, le-leb, eq-eqb}
+use Rattle.std.proofs.lemmas.Bool.{cond-true, cond-false, cases_eq, cases_lt, lt-ltb, le-ltb, le-leb, eq-eqb, and_from}
 use Rattle.logic.specs.Limits as limits
 use Rattle.logic.specs.Names.{letter}
 use Rattle.logic.specs.declared.row.SymbolRow.{SymbolRow}
@@ -16,7 +16,6 @@ use Rattle.reading.specs.States.{halt, enters}
 use Rattle.reading.specs.Entering.{new_row, with_arity, known, meet, settle}
 use Rattle.spelling.specs.Appearance.{PlainRow, Appear, known as is_Known, next}
 use Rattle.spelling.specs.Grammar.{Numeral, SymbolName, Names}
-use Rattle.spelling.proofs.Answers.{both_true}
 use Rattle.spelling.proofs.Tables.{RowGrows, same_kinded, Fits, among, not_among, within_table, others_stay, set_here}
 
 -- ── Forms ──
@@ -25,7 +24,7 @@ pub numeral_goes : (run figures : List ℕ) (most n at : ℕ) → Numeral run fi
 numeral_goes run figures most n at m =
     cond-false (ltb limits.name_bytes (length run)) (Err (Long at)) _ (le-ltb limits.name_bytes (length run) m.short)
     ∙ cond-true (decimal figures && leb (value figures) most) (Ok (value figures)) (Err (Form at))
-    (both_true (decimal figures) (leb (value figures) most) m.plain (le-leb (value figures) most (subst (λ (x : ℕ). x ≤ most) (sym m.worth) m.small)))
+    (and_from (decimal figures) (leb (value figures) most) m.plain (le-leb (value figures) most (subst (λ (x : ℕ). x ≤ most) (sym m.worth) m.small)))
     ∙ ap Ok m.worth
 
 pub name_goes : (r : List ℕ) (at : ℕ) → SymbolName r → symbol_form (word r) at ≡ Ok r
@@ -111,7 +110,7 @@ module _ (first : ℕ) (table : List SymbolRow) (final : Final first table) wher
             ap (known p k name at n rows) found
             ∙ cond-true (enters p) _ (Err (halt (Unknown at) n rows)) may
             ∙ cond-true (ltb n limits.symbols && ltb n (length rows)) (Ok (record { symbol = n; symbols = n + 1; rows = set rows n (new_row name k) })) (Err (halt (ManySymbols at) n rows))
-            (both_true (ltb n limits.symbols) (ltb n (length rows)) (lt-ltb n limits.symbols (omega (arith, in_table.0, final.few))) (lt-ltb n (length rows) (omega (arith, in_table.0))));
+            (and_from (ltb n limits.symbols) (ltb n (length rows)) (lt-ltb n limits.symbols (omega (arith, in_table.0, final.few))) (lt-ltb n (length rows) (omega (arith, in_table.0))));
         fits = fits_new n rows k name ge in_table.0 (omega (arith, in_table.0)) f in_table.1 names.kind;
         appear = rest;
         long = length-set rows n (new_row name k);

@@ -1,5 +1,5 @@
 -- What brackets and fixed words say of their tokens.
-use Rattle.std.proofs.Common.{◌≡◌, ℕ, Bool, true, false, List, ◌∷◌, Ok, codes, sym, refl, ap, subst, arith}
+use Rattle.std.proofs.Common.{◌≡◌, ℕ, Bool, true, false, List, ◌∷◌, Ok, codes, sym, refl, ap, subst}
 use Rattle.std.specs.Str.{bytes_eq}
 use Rattle.std.proofs.lemmas.Slice.Eq.{bytes_eq-Decides}
 use Rattle.tokens.specs.declared.fault.Fault.{Fault}
@@ -9,7 +9,7 @@ use Rattle.reading.specs.Marks.{Mark}
 use Rattle.reading.specs.Marks.{Closed, Opened}
 use Rattle.reading.specs.States.{State, from}
 use Rattle.reading.specs.Clauses.{opened, opening, closed, closing, worded, wording, marked, literal_mark, is_equals, is_not}
-use Rattle.spelling.proofs.Answers.{no_ok, ok_same, then_ok, lift_ok, cond_ok, pick_ok}
+use Rattle.spelling.proofs.Answers.{ok_same, then_ok, lift_ok, cond_ok, pick_ok}
 use Rattle.spelling.proofs.Streams.{Tokens, behind}
 
 -- the first token from p on is t, and e is the place behind it
@@ -27,26 +27,26 @@ AnswersFor t end e s = (s ≡ t) × (e ≡ end)
 
 pub opened_is : (at end : ℕ) (t : Tok) (e : ℕ) → opened at end t ≡ Ok e → AnswersFor opens end e t
 opened_is at end opens e h = (refl, sym (ok_same h))
-opened_is at end closes e h = absurd (no_ok h)
-opened_is at end equals e h = absurd (no_ok h)
-opened_is at end (number r) e h = absurd (no_ok h)
-opened_is at end (variable r) e h = absurd (no_ok h)
-opened_is at end (word r) e h = absurd (no_ok h)
+opened_is at end closes e h = cc
+opened_is at end equals e h = cc
+opened_is at end (number r) e h = cc
+opened_is at end (variable r) e h = cc
+opened_is at end (word r) e h = cc
 
 closed_is : (at end : ℕ) (t : Tok) (e : ℕ) → closed at end t ≡ Ok e → AnswersFor closes end e t
-closed_is at end opens e h = absurd (no_ok h)
+closed_is at end opens e h = cc
 closed_is at end closes e h = (refl, sym (ok_same h))
-closed_is at end equals e h = absurd (no_ok h)
-closed_is at end (number r) e h = absurd (no_ok h)
-closed_is at end (variable r) e h = absurd (no_ok h)
-closed_is at end (word r) e h = absurd (no_ok h)
+closed_is at end equals e h = cc
+closed_is at end (number r) e h = cc
+closed_is at end (variable r) e h = cc
+closed_is at end (word r) e h = cc
 
 worded_is : (w : List ℕ) (at end : ℕ) (t : Tok) (e : ℕ) → worded w at end t ≡ Ok e → AnswersFor (word w) end e t
-worded_is w at end opens e h = absurd (no_ok h)
-worded_is w at end closes e h = absurd (no_ok h)
-worded_is w at end equals e h = absurd (no_ok h)
-worded_is w at end (number r) e h = absurd (no_ok h)
-worded_is w at end (variable r) e h = absurd (no_ok h)
+worded_is w at end opens e h = cc
+worded_is w at end closes e h = cc
+worded_is w at end equals e h = cc
+worded_is w at end (number r) e h = cc
+worded_is w at end (variable r) e h = cc
 worded_is w at end (word r) e h =
     let a = pick_ok (bytes_eq r w) (Ok end) (Due at) e h in
     (ap word ((bytes_eq-Decides r w).0 a.0), sym (ok_same a.1))
@@ -79,10 +79,10 @@ marked_is f none at end opens m h =
     let a = cond_ok none f (Ok (Opened end)) m h in
     subst (MarkIs none end opens) (ok_same a.1) (refl, refl, a.0)
 marked_is f none at end closes m h = subst (MarkIs none end closes) (ok_same h) (refl, refl)
-marked_is f none at end equals m h = absurd (no_ok h)
-marked_is f none at end (number r) m h = absurd (no_ok h)
-marked_is f none at end (variable r) m h = absurd (no_ok h)
-marked_is f none at end (word r) m h = absurd (no_ok h)
+marked_is f none at end equals m h = cc
+marked_is f none at end (number r) m h = cc
+marked_is f none at end (variable r) m h = cc
+marked_is f none at end (word r) m h = cc
 
 pub record MarkRead (bs : List ℕ) (none : Bool) (p : ℕ) (m : Mark) : Type 0 where
   pub lexed : Lexed
@@ -95,17 +95,17 @@ literal_mark_read bs st none m h =
     record { lexed = c.0; read = c.1; is = marked_is (ManyLiterals c.0.place) none c.0.place c.0.end c.0.tok m c.2 }
 
 pub equals_is : (t : Tok) → is_equals t ≡ true → t ≡ equals
-equals_is opens e = let z : ◌≡◌ {A = ℕ} 0 1 = cc in absurd (omega arith)
-equals_is closes e = let z : ◌≡◌ {A = ℕ} 0 1 = cc in absurd (omega arith)
+equals_is opens e = cc
+equals_is closes e = cc
 equals_is equals e = refl
-equals_is (number r) e = let z : ◌≡◌ {A = ℕ} 0 1 = cc in absurd (omega arith)
-equals_is (variable r) e = let z : ◌≡◌ {A = ℕ} 0 1 = cc in absurd (omega arith)
-equals_is (word r) e = let z : ◌≡◌ {A = ℕ} 0 1 = cc in absurd (omega arith)
+equals_is (number r) e = cc
+equals_is (variable r) e = cc
+equals_is (word r) e = cc
 
 pub not_is : (t : Tok) → is_not t ≡ true → t ≡ word (codes "not")
-not_is opens e = let z : ◌≡◌ {A = ℕ} 0 1 = cc in absurd (omega arith)
-not_is closes e = let z : ◌≡◌ {A = ℕ} 0 1 = cc in absurd (omega arith)
-not_is equals e = let z : ◌≡◌ {A = ℕ} 0 1 = cc in absurd (omega arith)
-not_is (number r) e = let z : ◌≡◌ {A = ℕ} 0 1 = cc in absurd (omega arith)
-not_is (variable r) e = let z : ◌≡◌ {A = ℕ} 0 1 = cc in absurd (omega arith)
+not_is opens e = cc
+not_is closes e = cc
+not_is equals e = cc
+not_is (number r) e = cc
+not_is (variable r) e = cc
 not_is (word r) e = ap word ((bytes_eq-Decides r (codes "not")).0 e)

@@ -19,7 +19,7 @@ use Rattle.lines.specs.Positions.{given_at, turned, position_mark, position_turn
 use Rattle.lines.specs.Justifications.{Table, few_at, asked, Named, shaped, keyword_at}
 use Rattle.spelling.specs.Grammar.{Numeral}
 use Rattle.spelling.specs.StepGrammar.{KeywordName, due, SpellsNumbers, no_numbers, more_numbers, SpellsPosition, no_position, a_position}
-use Rattle.spelling.proofs.Answers.{no_ok, ok_same, then_ok, cond_ok, pick_ok}
+use Rattle.spelling.proofs.Answers.{ok_same, then_ok, cond_ok, pick_ok}
 use Rattle.spelling.proofs.Streams.{Tokens, behind}
 use Rattle.spelling.proofs.Marks.{TokenRead, token_there, opened_is}
 use Rattle.spelling.proofs.RulesRead.{number_is, NumberRead, number_read}
@@ -164,11 +164,11 @@ module _ (bs : List ℕ) where
 -- ── Keywords ──
 
 keyword_is : (t : Tok) (at : ℕ) (r : List ℕ) → keyword_form t at ≡ Ok r → (t ≡ word r) × KeywordName r
-keyword_is opens at r e = absurd (no_ok e)
-keyword_is closes at r e = absurd (no_ok e)
-keyword_is equals at r e = absurd (no_ok e)
-keyword_is (number q) at r e = absurd (no_ok e)
-keyword_is (variable q) at r e = absurd (no_ok e)
+keyword_is opens at r e = cc
+keyword_is closes at r e = cc
+keyword_is equals at r e = cc
+keyword_is (number q) at r e = cc
+keyword_is (variable q) at r e = cc
 keyword_is (word q) at r e =
     let b = cond_ok (ltb limits.name_bytes (length q)) (Long at) _ r e in
     let c = pick_ok (letter (get_or q 0 0)) (Ok q) (Form at) r b.1 in
@@ -189,6 +189,6 @@ keyword_read bs shapes p k e =
   where
     by : (l : Lexed) → lex bs p ≡ Ok l → (r : List ℕ) → l.tok ≡ word r → KeywordName r → (o : Option Shape) → shapes r ≡ o → shaped r l.place l.end o ≡ Ok k
         → KeywordRead bs shapes p k
-    by l x r t n None h f = absurd (no_ok f)
+    by l x r t n None h f = cc
     by l x r t n (Some s) h f =
         subst (KeywordRead bs shapes p) (ok_same f) (record { read = record { lexed = l; read = x; is = t; on = refl }; form = n; shaped_as = h })

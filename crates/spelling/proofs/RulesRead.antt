@@ -19,7 +19,7 @@ use Rattle.lines.specs.Numbers.{number_at, step_number, ended, line_end}
 use Rattle.lines.specs.Rules.{Ruled, rule_line}
 use Rattle.spelling.specs.Appearance.{clause_symbols, Appear}
 use Rattle.spelling.specs.Grammar.{Numeral, SpellsRule, a_rule}
-use Rattle.spelling.proofs.Answers.{no_ok, ok_same, bind_ok, then_ok, lift_ok, cond_ok}
+use Rattle.spelling.proofs.Answers.{ok_same, bind_ok, then_ok, lift_ok, cond_ok}
 use Rattle.spelling.proofs.Tables.{RowGrows, row_stays, Grows, Fits}
 use Rattle.spelling.proofs.Streams.{Tokens, stop, pour}
 use Rattle.spelling.proofs.Heads.{numeral_is}
@@ -51,12 +51,12 @@ fits_itself m rows short s =
 -- ── Numbers and the end of the line ──
 
 pub number_is : (t : Tok) (at n : ℕ) → number_form t at ≡ Ok n → (r : List ℕ) × (t ≡ number r) × Numeral r r largest_number n
-number_is opens at n e = absurd (no_ok e)
-number_is closes at n e = absurd (no_ok e)
-number_is equals at n e = absurd (no_ok e)
+number_is opens at n e = cc
+number_is closes at n e = cc
+number_is equals at n e = cc
 number_is (number r) at n e = (r, refl, numeral_is r r largest_number at n e)
-number_is (variable r) at n e = absurd (no_ok e)
-number_is (word r) at n e = absurd (no_ok e)
+number_is (variable r) at n e = cc
+number_is (word r) at n e = cc
 
 pub record NumberRead (bs : List ℕ) (p : ℕ) (m : Numbered) : Type 0 where
   pub run : List ℕ
@@ -83,24 +83,24 @@ step_number_read bs p m e =
     (subst (NumberRead bs p) same (number_read bs p a.0 a.1), subst (λ (x : Numbered). 0 < x.number) same (let d = eqb-false a.0.number 0 b.0 in omega arith))
 
 ended_is : (r : Result Lexed Fault) → ended r ≡ Ok tt → (x : ℕ) × (r ≡ Err (Early x))
-ended_is (Ok l) e = absurd (no_ok e)
+ended_is (Ok l) e = cc
 ended_is (Err (Early p)) e = (p, refl)
-ended_is (Err (NoToken p)) e = absurd (no_ok e)
-ended_is (Err (Due p)) e = absurd (no_ok e)
-ended_is (Err (Long p)) e = absurd (no_ok e)
-ended_is (Err (Form p)) e = absurd (no_ok e)
-ended_is (Err (Deep p)) e = absurd (no_ok e)
-ended_is (Err (ManyLiterals p)) e = absurd (no_ok e)
-ended_is (Err (ManyNumbers p)) e = absurd (no_ok e)
-ended_is (Err (ManyBindings p)) e = absurd (no_ok e)
-ended_is (Err (ManyWords p)) e = absurd (no_ok e)
-ended_is (Err (OtherKind p)) e = absurd (no_ok e)
-ended_is (Err (OtherArity p)) e = absurd (no_ok e)
-ended_is (Err (Unknown p)) e = absurd (no_ok e)
-ended_is (Err (ManyArguments p)) e = absurd (no_ok e)
-ended_is (Err (ManySymbols p)) e = absurd (no_ok e)
-ended_is (Err (NoRule p)) e = absurd (no_ok e)
-ended_is (Err Count) e = absurd (no_ok e)
+ended_is (Err (NoToken p)) e = cc
+ended_is (Err (Due p)) e = cc
+ended_is (Err (Long p)) e = cc
+ended_is (Err (Form p)) e = cc
+ended_is (Err (Deep p)) e = cc
+ended_is (Err (ManyLiterals p)) e = cc
+ended_is (Err (ManyNumbers p)) e = cc
+ended_is (Err (ManyBindings p)) e = cc
+ended_is (Err (ManyWords p)) e = cc
+ended_is (Err (OtherKind p)) e = cc
+ended_is (Err (OtherArity p)) e = cc
+ended_is (Err (Unknown p)) e = cc
+ended_is (Err (ManyArguments p)) e = cc
+ended_is (Err (ManySymbols p)) e = cc
+ended_is (Err (NoRule p)) e = cc
+ended_is (Err Count) e = cc
 
 pub end_read : (bs : List ℕ) (p : ℕ) → line_end bs p ≡ Ok tt → Tokens bs p []
 end_read bs p e = stop (ended_is (lex bs p) e).1
@@ -112,9 +112,9 @@ within_store n rows e = by (ltb (length rows) n) (ltb 256 n) refl refl e
   where
     by : (a b : Bool) → ltb (length rows) n ≡ a → ltb 256 n ≡ b → (a || b) ≡ false → (n ≤ length rows) × (n ≤ 256)
     by false false f g h = (ltb-false (length rows) n f, ltb-false 256 n g)
-    by false true f g h = let z : ◌≡◌ {A = ℕ} 0 1 = cc in absurd (omega arith)
-    by true false f g h = let z : ◌≡◌ {A = ℕ} 0 1 = cc in absurd (omega arith)
-    by true true f g h = let z : ◌≡◌ {A = ℕ} 0 1 = cc in absurd (omega arith)
+    by false true f g h = cc
+    by true false f g h = cc
+    by true true f g h = cc
 
 abbrev pub start : Purpose → ℕ → List ℕ → ℕ → List SymbolRow → State
 start p pos out n rows = record { purpose = p; pos = pos; count = 0; out = out; symbols = n; rows = rows }

@@ -15,7 +15,7 @@ use Rattle.spelling.proofs.RulesRead.{Settled}
 pub appear_sealed : (n : ℕ) (ss : List ℕ) (m : ℕ) → Appear false n ss m → m ≡ n
 appear_sealed n [] m none_more = refl
 appear_sealed n (s ∷ ss) m (known lt f) = appear_sealed n ss m f
-appear_sealed n (s ∷ ss) m (next y f) = let z : ◌≡◌ {A = ℕ} 0 1 = cc in absurd (omega arith)
+appear_sealed n (s ∷ ss) m (next y f) = cc
 
 pub rows_sealed : (n : ℕ) (rows : List SymbolRow) (m : ℕ) (rows' : List SymbolRow) → Settled n rows → Grows n rows m rows' → m ≡ n → rows' ≡ rows
 rows_sealed n rows m rows' s g e =

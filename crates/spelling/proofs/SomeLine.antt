@@ -1,6 +1,6 @@
 -- Every lawful clause over symbols that can be spelled is that of some line.
 use Rattle.std.proofs.Common.{◌≡◌, ℕ, zero, suc, ◌+◌, ◌^◌, ◌<◌, ◌≤◌, Bool, true, false, eqb, ltb, List, [], ◌∷◌, ◌++◌, length, get_or, take, codes, decimal as numeral, refl, ap, ◌∙◌, subst, arith}
-use Rattle.std.proofs.lemmas.Bool.{cond-true, eq-eqb, lt-ltb}
+use Rattle.std.proofs.lemmas.Bool.{cond-true, eq-eqb, lt-ltb, and_from}
 use Rattle.std.proofs.lemmas.List.{length-take-le}
 use Rattle.std.proofs.lemmas.Fmt.{length-decimal-le, decimal_nonempty}
 use Rattle.std.specs.List.{AllByRecursion}
@@ -18,7 +18,6 @@ use Rattle.spelling.specs.Appearance.{clause_symbols, Appear}
 use Rattle.spelling.specs.Spacing.{Spaced, end, space, opening, closing, equality, run}
 use Rattle.spelling.specs.Grammar.{Names, SpellsTerm, SpellsTerms, SpellsAtom, SpellsLiteral, SpellsLiterals, SpellsRule, a_variable, an_application, no_terms, more_terms, an_atom, an_equation, positive, negative, no_literals, more_literals, a_clause, a_rule}
 use Rattle.spelling.specs.Spelling.{Nameable, LawfulClausesAreSpelled}
-use Rattle.spelling.proofs.Answers.{both_true}
 use Rattle.spelling.proofs.Decimals.{numeral_of, numeral_bytes, numeral_first, numeral_leading}
 use Rattle.spelling.proofs.SealedTables.{clause_stays}
 
@@ -61,7 +60,7 @@ variable_text i h =
     let some = decimal_nonempty i h in
     let long : past Digit (118 ∷ numeral i) 1 ≡ length (118 ∷ numeral i) = ap (λ k. 1 + k) (numeral_leading i h) ∙ omega arith in
     let is : variable_run (118 ∷ numeral i) ≡ true =
-    both_true (ltb 1 (length (118 ∷ numeral i))) (eqb (past Digit (118 ∷ numeral i) 1) (length (118 ∷ numeral i))) (lt-ltb 1 (length (118 ∷ numeral i)) (omega arith)) (eq-eqb _ _ long) in
+    and_from (ltb 1 (length (118 ∷ numeral i))) (eqb (past Digit (118 ∷ numeral i) 1) (length (118 ∷ numeral i))) (lt-ltb 1 (length (118 ∷ numeral i)) (omega arith)) (eq-eqb _ _ long) in
     (cond-true (variable_run (118 ∷ numeral i)) (variable (118 ∷ numeral i)) (word (118 ∷ numeral i)) is, omega arith, (refl, numeral_bytes i h))
 
 -- ── The tokens of a tree ──
@@ -77,7 +76,7 @@ module _ (table : List SymbolRow) (nameable : Nameable table) where
   word_text s h = (nameable.class_is s h, some (name s) (nameable.form s h).lettered, nameable.bytes s h)
     where
       some : (r : List ℕ) → letter (get_or r 0 0) ≡ true → 0 < length r
-      some [] e = let z : ◌≡◌ {A = ℕ} 0 1 = cc in absurd (omega arith)
+      some [] e = cc
       some (b ∷ r) e = omega arith
 
   -- a term before what follows it

@@ -14,7 +14,7 @@ use Rattle.tokens.specs.Bytes.{within, past}
 use Rattle.tokens.specs.Tokens.{Tok, opens, closes, equals, class, Lexed, one_byte, token_at, lex}
 use Rattle.tokens.proofs.Pasts.{part_some}
 use Rattle.spelling.specs.Spacing.{RunEnds, Spaced, end, space, opening, closing, equality, run}
-use Rattle.spelling.proofs.Answers.{no_ok, ok_same}
+use Rattle.spelling.proofs.Answers.{ok_same}
 use Rattle.spelling.proofs.Streams.{Tokens, stop, token}
 
 -- ── Spaces in front ──
@@ -97,7 +97,7 @@ module _ (bs : List ℕ) (s : ℕ) (ts : List Tok) where
     where
       from_run : (q : Bool) → s < length bs → within Run (get_or bs s 0) ≡ q → by_run q ≡ Ok l → Stands l
       from_run true lt is k = run_stands l lt is k
-      from_run false lt is k = absurd (no_ok k)
+      from_run false lt is k = cc
 
       from_equals : (q : Bool) → s < length bs → eqb (get_or bs s 0) 61 ≡ q → by_equals q ≡ Ok l → Stands l
       from_equals true lt is k = one_stands 61 equals l lt (eqb-true _ _ is) equality k
@@ -112,7 +112,7 @@ module _ (bs : List ℕ) (s : ℕ) (ts : List Tok) where
       from_open false lt is k = from_close (eqb (get_or bs s 0) 41) lt refl k
 
       from_end : (q : Bool) → leb (length bs) s ≡ q → by_end q ≡ Ok l → Stands l
-      from_end true e k = absurd (no_ok k)
+      from_end true e k = cc
       from_end false e k = from_open (eqb (get_or bs s 0) 40) (leb-false _ _ e) refl k
 
   -- where no token is found for want of bytes, there are none
@@ -123,34 +123,31 @@ module _ (bs : List ℕ) (s : ℕ) (ts : List Tok) where
       never r n e = absurd (n x e)
 
       no_run : (q : Bool) → by_run q ≡ Err (Early x) → ⊥
-      no_run true e = let z : ◌≡◌ {A = ℕ} 0 1 = cc in omega arith
-      no_run false e = let z : ◌≡◌ {A = ℕ} 0 1 = cc in omega arith
+      no_run true e = cc
+      no_run false e = cc
 
       no_equals : (q : Bool) → by_equals q ≡ Err (Early x) → ⊥
-      no_equals true e = let z : ◌≡◌ {A = ℕ} 0 1 = cc in omega arith
+      no_equals true e = cc
       no_equals false e = no_run (within Run (get_or bs s 0)) e
 
       no_close : (q : Bool) → by_close q ≡ Err (Early x) → ⊥
-      no_close true e = let z : ◌≡◌ {A = ℕ} 0 1 = cc in omega arith
+      no_close true e = cc
       no_close false e = no_equals (eqb (get_or bs s 0) 61) e
 
       no_open : (q : Bool) → by_open q ≡ Err (Early x) → ⊥
-      no_open true e = let z : ◌≡◌ {A = ℕ} 0 1 = cc in omega arith
+      no_open true e = cc
       no_open false e = no_close (eqb (get_or bs s 0) 41) e
 
       from_end : (q : Bool) → leb (length bs) s ≡ q → by_end q ≡ Err (Early x) → length bs ≤ s
       from_end true e k = leb-true _ _ e
       from_end false e k = absurd (no_open (eqb (get_or bs s 0) 40) k)
 
-all_behind : (bs : List ℕ) (p : ℕ) → length bs ≤ p → drop p bs ≡ []
-all_behind bs p h = drop_of_length-le bs h
-
 pub tokens_spaced : (bs : List ℕ) (p : ℕ) (ts : List Tok) → Tokens bs p ts → Spaced (drop p bs) ts
 unfolding lex
 tokens_spaced bs p [] (stop {x = x} e) =
     let n : ℕ = prefix_len (within Space) (drop p bs) in
     let late : length bs ≤ past Space bs p = at_end bs (past Space bs p) [] x e in
-    spaces (drop p bs) [] (subst (λ xs. Spaced xs []) (sym (drop-drop n p bs ∙ all_behind bs (past Space bs p) late)) end)
+    spaces (drop p bs) [] (subst (λ xs. Spaced xs []) (sym (drop-drop n p bs ∙ drop_of_length-le bs late)) end)
 tokens_spaced bs p (t ∷ ts) (token l e r) =
     spaces (drop p bs) (l.tok ∷ ts)
     (subst (λ xs. Spaced xs (l.tok ∷ ts)) (sym (drop-drop (prefix_len (within Space) (drop p bs)) p bs)) (at_stands bs (past Space bs p) ts l e (tokens_spaced bs l.end ts r)))

@@ -1,4 +1,5 @@
 -- A line spells one step at most.
+use lib.ListN.{length-replicate}
 use Rattle.std.proofs.Common.{◌≡◌, ℕ, ◌+◌, ◌<◌, ◌≤◌, Bool, List, [], ◌∷◌, map, length, take, replicate, sym, refl, ap, ◌∙◌, arith}
 use Rattle.std.specs.List.{AllByRecursion}
 use Rattle.logic.specs.Syntax.{Clause}
@@ -12,11 +13,11 @@ use Rattle.reading.specs.Bindings.{Bound}
 use Rattle.lines.specs.declared.shape.Shape.{Shape}
 use Rattle.lines.specs.Justifications.{Table}
 use Rattle.lines.specs.Steps.{Stepped}
-use Rattle.spelling.specs.Spelling.{Counted, stored}
+use Rattle.spelling.specs.Spelling.{Counted}
 use Rattle.spelling.specs.StepGrammar.{Binding, Reason, SpellsBindings, no_bindings, more_bindings, SpellsBindingList, no_list, a_list, SpellsReason, a_reason, SpellsStep, a_step}
 use Rattle.spelling.specs.StepSpelling.{SpellsStepLine, kept_binding, step_read, StepsAreSpelledOneWay}
 use Rattle.spelling.proofs.Answers.{ok_same}
-use Rattle.spelling.proofs.Exact.{words_stored}
+use Rattle.spelling.proofs.Exact.{words_same}
 use Rattle.spelling.proofs.LawfulSpelled.{lawful_term}
 use Rattle.spelling.proofs.StepsGo.{sealed_final}
 use Rattle.spelling.proofs.StepExact.{steps_are_read_as_spelled, spelled_steps_are_lawful}
@@ -28,8 +29,8 @@ LawfulBindings table xs = AllByRecursion (λ (b : Binding). LawfulTerm table b.t
 
 bindings_same : (table : List SymbolRow) (xs ys : List Binding) → LawfulBindings table xs → LawfulBindings table ys → map kept_binding xs ≡ map kept_binding ys → xs ≡ ys
 bindings_same table [] [] f g e = refl
-bindings_same table [] (y ∷ ys) f g e = let z : ◌≡◌ {A = ℕ} 0 1 = cc in absurd (omega arith)
-bindings_same table (x ∷ xs) [] f g e = let z : ◌≡◌ {A = ℕ} 0 1 = cc in absurd (omega arith)
+bindings_same table [] (y ∷ ys) f g e = cc
+bindings_same table (x ∷ xs) [] f g e = cc
 bindings_same table (x ∷ xs) (y ∷ ys) f g e =
     let head : kept_binding x ≡ kept_binding y = cc in
     let rest : map kept_binding xs ≡ map kept_binding ys = cc in
@@ -72,10 +73,9 @@ module _ (line : List ℕ) (shapes : Table) (n : ℕ) (rows : List SymbolRow) (c
   one_list : clause_words c ≡ clause_words c'
   one_list =
       let k : ℕ = length (clause_words c) + length (clause_words c') in
-      let many : length (clause_words c) ≡ length (clause_words c') = ap (λ (x : Stepped). x.words) (one_reading k) in
-      let whole : stored (replicate k 0) (clause_words c) ≡ stored (replicate k 0) (clause_words c') = ap (λ (x : Stepped). x.out) (one_reading k) in
-      sym (words_stored (clause_words c) k (omega arith)) ∙ ap (take (length (clause_words c))) whole ∙ ap (λ j. take j (stored (replicate k 0) (clause_words c'))) many
-      ∙ words_stored (clause_words c') k (omega arith)
+      let out : List ℕ = replicate k 0 in
+      let room : length out ≡ k = length-replicate k 0 in
+      words_same out (clause_words c) (clause_words c') (omega arith) (omega arith) (ap (λ (x : Stepped). x.words) (one_reading k)) (ap (λ (x : Stepped). x.out) (one_reading k))
 
   one_clause : c ≡ c'
   one_clause =

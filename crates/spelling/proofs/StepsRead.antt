@@ -28,7 +28,7 @@ use Rattle.spelling.specs.Appearance.{Appear}
 use Rattle.spelling.specs.Grammar.{VariableRun, SpellsTerm}
 use Rattle.spelling.specs.StepGrammar.{Binding, bound_words, SpellsBindings, no_bindings, more_bindings, SpellsBindingList, no_list, a_list}
 use Rattle.spelling.specs.StepSpelling.{kept_binding}
-use Rattle.spelling.proofs.Answers.{no_ok, ok_same, bind_ok, then_ok, lift_ok, cond_ok}
+use Rattle.spelling.proofs.Answers.{ok_same, bind_ok, then_ok, lift_ok, cond_ok}
 use Rattle.spelling.proofs.Tables.{Grows, Fits}
 use Rattle.spelling.proofs.Streams.{Tokens, behind, pour}
 use Rattle.spelling.proofs.Marks.{TokenRead, token_there, opening_read, closing_read, marked_is, MarkRead}
@@ -38,10 +38,6 @@ use Rattle.spelling.proofs.RulesRead.{Settled, fits_itself, start}
 use Rattle.spelling.proofs.SealedTables.{appear_sealed, rows_sealed}
 
 -- ── Words where they were written ──
-
-pub length-pour : (out : List ℕ) (n : ℕ) (ws : List ℕ) → length (pour out n ws) ≡ length out
-length-pour out n [] = refl
-length-pour out n (w ∷ ws) = length-pour (set out n w) (n + 1) ws ∙ length-set out n w
 
 pour_fits : (out : List ℕ) (n : ℕ) (ws : List ℕ) → n + length ws ≤ length out → pour out n ws ≡ take n out ++ (ws ++ drop (n + length ws) out)
 pour_fits out n [] h =
@@ -70,12 +66,12 @@ poured_between out n m ws e h =
 -- ── Variables ──
 
 due_is : (at : ℕ) (t : Tok) (i : ℕ) → variable_due at t ≡ Ok i → (r : List ℕ) × (t ≡ variable r) × VariableRun r i
-due_is at opens i e = absurd (no_ok e)
-due_is at closes i e = absurd (no_ok e)
-due_is at equals i e = absurd (no_ok e)
-due_is at (number r) i e = absurd (no_ok e)
+due_is at opens i e = cc
+due_is at closes i e = cc
+due_is at equals i e = cc
+due_is at (number r) i e = cc
 due_is at (variable r) i e = (r, refl, variable_is r at i e)
-due_is at (word r) i e = absurd (no_ok e)
+due_is at (word r) i e = cc
 
 record VariableRead (bs : List ℕ) (p : ℕ) (v : Found) : Type 0 where
   run : List ℕ

@@ -258,6 +258,11 @@ module _ (bs : List ℕ) (p : Purpose) (first : ℕ) (table : List SymbolRow) (f
   pub toward_moved : (a : State) (e : ℕ) → Toward a → Toward (moved a e)
   toward_moved a e on = record { purpose = on.purpose; fits = on.fits; since = on.since; short = on.short; room = on.room }
 
+  -- only the place moves
+  pub went_over : (a : State) (e : ℕ) (us : List Tok) (m : ℕ) → Toward a → m ≡ a.symbols → Tokens bs e us → Went a (moved a e) [] us m
+  went_over a e us m on same there =
+      record { left = there; wrote = wrote_none a (moved a e) refl refl refl; symbols = sym same; toward = toward_moved a e on }
+
   application_read : (k s : ℕ) (ts : Terms) (r : List ℕ) (toks us : List Tok) (m : ℕ) → Names table r s Function (count ts) → ArgsGo k ts toks us → (a : State) → Toward a
       → Appear (enters p) a.symbols (s ∷ terms_symbols ts) m → m ≤ length table → Roomy p a.count (length ((256 + s) ∷ terms_words ts))
       → Tokens bs a.pos (opens ∷ word r ∷ toks) → TermDone (suc k) a (app s ts) us m
@@ -275,13 +280,7 @@ module _ (bs : List ℕ) (p : Purpose) (first : ℕ) (table : List SymbolRow) (f
       by f =
           record {
             b = moved a f.0.end;
-            went =
-                record {
-                  left = f.3;
-                  wrote = wrote_none a (moved a f.0.end) refl refl refl;
-                  symbols = sym e;
-                  toward = toward_moved a f.0.end on;
-                };
+            went = went_over a f.0.end us m on e f.3;
             goes =
                 args_suc bs (nest bs room) (eqb room 0) given a l
                 ∙ ap (λ z. z >>= turn (nest bs room) (args bs (nest bs room) (eqb room 0) l (given + 1)) given a)

@@ -17,7 +17,7 @@ use Rattle.reading.specs.Terms.{fitting, slot_at, slot, turn, args, body, nest, 
 use Rattle.reading.proofs.Turns.{args_suc}
 use Rattle.spelling.specs.Appearance.{Appear}
 use Rattle.spelling.specs.Grammar.{VariableRun}
-use Rattle.spelling.proofs.Answers.{no_ok, ok_same, bind_ok, then_ok, lift_ok, cond_ok}
+use Rattle.spelling.proofs.Answers.{ok_same, bind_ok, then_ok, lift_ok, cond_ok}
 use Rattle.spelling.proofs.Tables.{Grows, stays, grows_then, Fits, MetAs, old, new, SettledAs, application_grows}
 use Rattle.spelling.proofs.Heads.{numeral_is, HeadIs, head_is, settle_is}
 
@@ -45,13 +45,13 @@ slot_is deep words more at end opens s e =
     let f = fitting_ok deep false more at (Opened end) s e in
     subst (SlotIs deep words more end opens) f.3 (refl, f.0, f.2, refl)
 slot_is deep words more at end closes s e = subst (SlotIs deep words more end closes) (ok_same e) (refl, refl)
-slot_is deep words more at end equals s e = absurd (no_ok e)
-slot_is deep words more at end (number r) s e = absurd (no_ok e)
+slot_is deep words more at end equals s e = cc
+slot_is deep words more at end (number r) s e = cc
 slot_is deep words more at end (variable r) s e =
     let b = then_ok (variable_form r at) (λ i. fitting deep words more at (Ok (Variable i end))) s e in
     let f = fitting_ok deep words more at (Variable b.0 end) s b.2 in
     subst (SlotIs deep words more end (variable r)) f.3 (r, refl, variable_is r at b.0 b.1, f.0, f.1, f.2, refl)
-slot_is deep words more at end (word r) s e = absurd (no_ok e)
+slot_is deep words more at end (word r) s e = cc
 
 pub some : (room : ℕ) → eqb room 0 ≡ false → 0 < room
 some room e = grind (arith, nat_tests)

@@ -15,7 +15,7 @@ use Rattle.reading.specs.Terms.{slot, turn, args, body, nest, application, heade
 use Rattle.reading.proofs.Turns.{args_suc, nest_application}
 use Rattle.spelling.specs.Appearance.{term_symbols, terms_symbols, Appear, none_more}
 use Rattle.spelling.specs.Grammar.{Names, SpellsTerm, SpellsTerms, a_variable, an_application, no_terms, more_terms}
-use Rattle.spelling.proofs.Answers.{no_ok, ok_same, bind_ok}
+use Rattle.spelling.proofs.Answers.{ok_same, bind_ok}
 use Rattle.spelling.proofs.Tables.{stays, Fits, fits_before, fits_settled}
 use Rattle.spelling.proofs.Streams.{Tokens, behind, Wrote, wrote_join, wrote_none, wrote_one, wrote_rows}
 use Rattle.spelling.proofs.Naming.{named_in, arity_in, met_appears}
@@ -200,7 +200,7 @@ module _ (bs : List ℕ) where
       by c.0 (slot_read bs a (eqb room 0) (full a.purpose a.count) false c.0 c.1) c.2
     where
       by : (s : Slot) → SlotRead bs (eqb room 0) (full a.purpose a.count) false a.pos s → term_turn bs room a s ≡ Ok b → TermRead room a b us
-      by (Closed e) q k = absurd (no_ok k)
+      by (Closed e) q k = cc
       by (Variable i e) q k =
           let same : written a e i ≡ b = ok_same k in
           record {
@@ -229,7 +229,7 @@ module _ (bs : List ℕ) where
       by c.0 (slot_read bs a (eqb room 0) (full a.purpose a.count) false c.0 c.1) c.2
     where
       by : (s : Slot) → SlotRead bs (eqb room 0) (full a.purpose a.count) false a.pos s → term_turn bs room a s ≡ Ok b → Grown a b
-      by (Closed e) q k = absurd (no_ok k)
+      by (Closed e) q k = cc
       by (Variable i e) q k = subst (Grown a) (ok_same k) (stays a.symbols a.rows)
       by (Opened e) q k = nest_keeps bs room (moved a e) b short (nest_application bs room (moved a e) (some room q.is.1) ∙ k)
 
