@@ -1,22 +1,14 @@
 //! Each line, and the number and the place of its refusal.
 use lines::read_rule;
-use logic::{Kind, NAME_BYTES, SymbolRow};
+use logic::SymbolRow;
 use std::test::Fail;
 
 /// How many bytes a long line has.
 const LONG: usize = 1_048_576;
 
-/// A row in which nothing has been written.
-const BLANK: SymbolRow = SymbolRow {
-    name: [0; NAME_BYTES],
-    length: 0,
-    kind: Kind::Function,
-    arity: 0,
-};
-
 /// The number and the place of the line's refusal, with no symbol counted; none where it is read.
 fn refusal(line: &[u8]) -> Option<(u32, usize)> {
-    let mut rows = [BLANK; 4];
+    let mut rows = [SymbolRow::default(); 4];
     let mut words = [0; 4];
     let mut symbols = 0;
     let fault = read_rule(line, &mut rows, &mut symbols, &mut words).err()?;

@@ -10,27 +10,19 @@ use crate::judge::judge;
 use crate::refusal::Refusal;
 use crate::session::Session;
 use crate::text::add_answer;
-use logic::{Kind, NAME_BYTES, SYMBOLS, SymbolRow};
+use logic::{SYMBOLS, SymbolRow};
 use std::alloc::{AllocError, Global};
 use std::fmt;
 
 /// How many words the store has room for.
 pub const WORDS: usize = 1_048_576;
 
-/// The row that the symbol store is filled with at first.
-const BLANK: SymbolRow = SymbolRow {
-    name: [0; NAME_BYTES],
-    length: 0,
-    kind: Kind::Function,
-    arity: 0,
-};
-
 impl Session {
     /// A session that has met no symbol.
     pub fn new(heap: Global) -> Result<Session, AllocError>
         ensures { IfOk result (λ s. (s.symbols ≡ 0) × (vec_len s.rows ≡ symbol_room) × (vec_len s.words ≡ word_room)) }
     {
-        let rows = vec![in heap; BLANK; SYMBOLS]?;
+        let rows = vec![in heap; SymbolRow::default(); SYMBOLS]?;
         let words = vec![in heap; 0; WORDS]?;
         Ok(Session {
             rows,
