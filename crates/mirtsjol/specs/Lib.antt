@@ -1,5 +1,6 @@
 pub mod Cuts
 pub mod Lines
+pub mod Keeping
 pub mod Refusals
 pub mod Verdicts
 pub mod Texts
