@@ -17,6 +17,8 @@ pub const FEW: usize = 2;
 
 /// What a justification has behind its keyword. The shape of its inference rule says how many premises and literal numbers count; the
 /// position has the first `steps` numbers.
+// Arrays of fixed size, since reading allocates nothing; how many of the numbers count is said by the shape, so they are no `Option`s.
+// That it is usable is no invariant, for the reason given at `Bindings`.
 #[derive(Clone, Copy)]
 pub struct Justification {
     pub premises: [u32; FEW],
@@ -33,7 +35,7 @@ pub struct Keyword<'a> {
     pub shape: Shape,
 }
 
-/// A keyword with its premises and literal numbers; 0 stands for a number that is not asked for.
+/// A keyword with its premises and literal numbers, as `Justification` has them; 0 stands for a number that is not asked for.
 #[derive(Clone, Copy)]
 pub struct Cited<'a> {
     pub keyword: Keyword<'a>,

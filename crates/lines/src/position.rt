@@ -2,7 +2,7 @@
 ghost use Rattle.std.specs.Prelude.{◌≡◌, ◌+◌, ◌<◌, ◌≤◌, IfOk, IfSome, [], ◌≢◌, ◌==◌};
 ghost use Rattle.lines.specs.Limits.{position_numbers};
 ghost use Rattle.reading.specs.Cursors.{Onward};
-ghost use Rattle.lines.specs.Positions.{turned_to, position_mark, position_read, position_list, position_at, position_part, StaysInLine};
+ghost use Rattle.lines.specs.Positions.{turned_to, position_mark, position_read, position_at, position_part, StaysInLine};
 
 use reading::Cursor;
 use tokens::{Fault, Token};
@@ -27,23 +27,6 @@ fn next_number(at: &mut Cursor<'_>, given: usize) -> Result<Option<u32>, Fault>
     Ok(Some(number))
 }
 
-/// The numbers up to the closing bracket: how many.
-fn position_list(
-    at: &mut Cursor<'_>,
-    position: &mut [u32; POSITION_NUMBERS],
-) -> Result<usize, Fault>
-    ensures is { position_read result position.new at.new ≡ position_list at.old.line.now (position_numbers + 1) [] at.old.pos }
-    ensures few { IfOk result (λ n. n ≤ position_numbers) }
-    ensures on { StaysInLine at.old at.new }
-{
-    let mut given = 0;
-    while let Some(number) = next_number(at, given)? {
-        position[given] = number;
-        given += 1;
-    }
-    Ok(given)
-}
-
 /// The position that is due: how many numbers it has.
 fn read_position(
     at: &mut Cursor<'_>,
@@ -54,7 +37,13 @@ fn read_position(
     ensures on { StaysInLine at.old at.new }
 {
     at.open()?;
-    position_list(at, position)
+    let mut given = 0;
+    // Counted by hand: over `position.iter_mut()` the bracket behind the last number would have to be read apart.
+    while let Some(number) = next_number(at, given)? {
+        position[given] = number;
+        given += 1;
+    }
+    Ok(given)
 }
 
 /// The position, where one is due at all.

@@ -39,6 +39,7 @@ fn read_text(reader: &mut Reader<'_, '_>, out: &mut [u32]) -> Result<RuleLine, F
     })
 }
 
+// The rows and their count stay two parameters: a caller may have any count, which 42 refuses, and a type with the bound could not hold it.
 /// Reads `(rule N clause)`: the clause's words go to `out`, new names become symbols. Whether the line is read or refused, no symbol is lost,
 /// their count stays within its bounds, and the rows of those counted before the line stay as they were where the arities are fixed.
 pub fn read_rule(
@@ -52,6 +53,7 @@ pub fn read_rule(
     ensures counted { (symbols.old ≤ symbols.new) × ((symbols.old ≤ length rows.old) × (symbols.old ≤ symbol_room) → (symbols.new ≤ length rows.new) × (symbols.new ≤ symbol_room)) }
 {
     check_count(rows, *symbols)?;
+    // Written out here and in `read_step`: from a constructor that may refuse, the caller does not learn what the rows are then (tried).
     let mut reader = Reader {
         purpose: Purpose::Rule,
         at: Cursor { line, pos: 0 },

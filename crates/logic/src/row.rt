@@ -10,6 +10,7 @@ pub enum Kind {
 }
 
 /// A row of the symbol store: plain numbers, of which anything may have been written. By default nothing has.
+// Bytes with a length: the store is lent by the caller as plain rows, and nothing is allocated.
 #[derive(Clone, Copy, Default, PartialEq, Eq)]
 pub struct SymbolRow {
     pub name: [u8; NAME_BYTES],

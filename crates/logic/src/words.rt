@@ -17,6 +17,7 @@ pub struct Span {
     pub end: usize,
 }
 
+// Words and rows stay two parameters: the rows are the same for all words of a step, so a struct of both would be made anew at each call.
 /// How many words n terms or literals take from the front on, or all words where they end before.
 pub(crate) fn words_of(words: &[u32], rows: &[SymbolRow], n: usize) -> usize
     ensures is { result ≡ passed (arities rows.now) n words.now }

@@ -8,6 +8,7 @@ use Rattle.reading.specs.declared.cursor.Cursor.{Cursor}
 use Rattle.reading.specs.States.{◌then◌}
 use Rattle.reading.specs.Bindings.{Found}
 
+-- a relation of a cursor before a call and after it, which no invariant can state:
 -- reading has gone on in the same line, never back; where it was not refused, it stands behind a token more
 abbrev pub Onward : {A : Type 0} → Cursor → Cursor → Result A Fault → Type 0
 Onward c d r = (d.line ≡ c.line) × (c.pos ≤ d.pos) × OnOk r ((c.pos < d.pos) × (d.pos ≤ length c.line.now))

@@ -31,14 +31,18 @@ abbrev pub met : Result ℕ Fault → ℕ → List SymbolRow → Result Met Halt
 met (Ok s) n rows = Ok (record { symbol = s; symbols = n; rows = rows })
 met (Err f) n rows = Err (halt f n rows)
 
--- one symbol more, where names are entered and there is room
-abbrev pub enter : Purpose → Kind → List ℕ → ℕ → ℕ → List SymbolRow → Result Met Halt
-enter p k name at n rows =
+-- one symbol more with this row, where names are entered and there is room
+abbrev pub entered : Purpose → SymbolRow → ℕ → ℕ → List SymbolRow → Result Met Halt
+entered p row at n rows =
     cond (enters p)
     (cond (nat_lt n limits.symbols && nat_lt n (length rows))
-    (Ok (record { symbol = n; symbols = n + 1; rows = slice_set rows n (new_row name k) }))
+    (Ok (record { symbol = n; symbols = n + 1; rows = slice_set rows n row }))
     (Err (halt (ManySymbols at) n rows)))
     (Err (halt (Unknown at) n rows))
+
+-- one symbol more with this name
+abbrev pub enter : Purpose → Kind → List ℕ → ℕ → ℕ → List SymbolRow → Result Met Halt
+enter p k name at n rows = entered p (new_row name k) at n rows
 
 abbrev pub known : Purpose → Kind → List ℕ → ℕ → ℕ → List SymbolRow → Option ℕ → Result Met Halt
 known p k name at n rows None = enter p k name at n rows

@@ -28,6 +28,9 @@ abbrev pub counted : Result ℕ Fault → Reader → List ℕ → Result (ℕ ×
 counted (Ok n) r out = Ok (n, seen r out)
 counted (Err f) r out = Err (halt f r.symbols r.rows.now)
 
+-- Keeps, Enters and Goes relate a reader before a call and after it, which no invariant of the type can do; so they stand in each
+-- contract, by their names.
+
 -- the store of symbols is the same one, and no symbol is lost
 abbrev pub Keeps : Reader → Reader → Type 0
 Keeps r s = (s.rows.ghost_name ≡ r.rows.ghost_name) × (r.symbols ≤ s.symbols)

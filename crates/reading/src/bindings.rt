@@ -15,6 +15,8 @@ pub const BINDINGS: usize = 64;
 pub const PLACES: usize = BINDINGS + 1;
 
 /// Bindings: number k binds the variable `variables[k]` to the words of `terms` from `places[k]` up to `places[k + 1]`.
+// Arrays of fixed size with a count, since reading and checking allocate nothing. That they are in order is no invariant: a reader is
+// lent bindings in which anything may stand, and an invariant would ask more of whoever lends them.
 #[derive(Clone, Copy)]
 pub struct Bindings {
     pub variables: [u32; BINDINGS],

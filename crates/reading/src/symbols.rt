@@ -1,15 +1,16 @@
 //! Symbols as their names are met.
-ghost use Rattle.std.specs.Prelude.{◌≡◌, ◌-◌, ◌<◌, ◌≤◌, ◌++◌, length, replicate, take, IfSome, IfOk, OnErr};
+ghost use Rattle.std.specs.Prelude.{◌≡◌, ◌<◌, ◌≤◌, length, take, IfSome, IfOk, OnErr};
 ghost use Rattle.logic.specs.Directory.{place_of_name};
 ghost use Rattle.logic.specs.Limits.{arguments as most_arguments, name_bytes, symbols as most_symbols};
 ghost use Rattle.reading.specs.States.{count_checked};
-ghost use Rattle.reading.specs.Entering.{met, enter as enter_of, meet as meet_of, settled, settle as settle_of};
+ghost use Rattle.reading.specs.Entering.{met, new_row, entered, meet as meet_of, settled, settle as settle_of};
 
 use crate::reader::Reader;
 use logic::{ARGUMENTS, Kind, NAME_BYTES, SYMBOLS, SymbolRow, symbol_named};
 use tokens::Fault;
 
 /// The arity of a symbol whose first closing bracket is still to come.
+// A number and no `Option`: a row of the store is plain numbers, of which anything may have been written.
 const OPEN_ARITY: u8 = 255;
 
 /// Refuses a count of symbols that exceeds their store, of which at most 256 rows are used.
@@ -22,15 +23,20 @@ pub fn check_count(rows: &[SymbolRow], symbols: usize) -> Result<(), Fault>
     Ok(())
 }
 
-/// The name and zeros behind it.
-fn padded(name: &[u8]) -> [u8; NAME_BYTES]
+/// The row of a name that is met for the first time; the bytes behind the name are 0, its arity is still to come.
+fn new_row(kind: Kind, name: &[u8]) -> SymbolRow
     requires { length name.now ≤ name_bytes }
-    ensures { result ≡ name.now ++ replicate (name_bytes - length name.now) 0 }
+    ensures { result ≡ new_row name.now kind }
 {
     let mut bytes = [0u8; NAME_BYTES];
-    let n = name.len();
-    bytes[0..n].copy_from_slice(name);
-    bytes
+    let length = name.len();
+    bytes[0..length].copy_from_slice(name);
+    SymbolRow {
+        name: bytes,
+        length: length as u8,
+        kind,
+        arity: OPEN_ARITY,
+    }
 }
 
 impl Reader<'_, '_> {
@@ -44,10 +50,9 @@ impl Reader<'_, '_> {
         symbol_named(&self.rows[..self.symbols], name)
     }
 
-    /// Enters a name that no counted symbol has.
-    fn enter(&mut self, kind: Kind, name: &[u8], place: usize) -> Result<usize, Fault>
-        requires { length name.now ≤ name_bytes }
-        ensures is { met result self.new.symbols self.new.rows.now ≡ enter_of self.old.purpose kind name.now place self.old.symbols self.old.rows.now }
+    /// Enters the row of a name that no counted symbol has.
+    fn enter(&mut self, row: SymbolRow, place: usize) -> Result<usize, Fault>
+        ensures is { met result self.new.symbols self.new.rows.now ≡ entered self.old.purpose row place self.old.symbols self.old.rows.now }
         ensures on { IfOk result (λ s. s < self.new.symbols) }
         ensures enters { Enters self.old self.new }
     {
@@ -58,12 +63,7 @@ impl Reader<'_, '_> {
         if symbol >= SYMBOLS || symbol >= self.rows.len() {
             return Err(Fault::ManySymbols(place));
         }
-        self.rows[symbol] = SymbolRow {
-            name: padded(name),
-            length: name.len() as u8,
-            kind,
-            arity: OPEN_ARITY,
-        };
+        self.rows[symbol] = row;
         self.symbols = symbol + 1;
         Ok(symbol)
     }
@@ -84,7 +84,7 @@ impl Reader<'_, '_> {
                     Err(Fault::OtherKind(place))
                 }
             }
-            None => self.enter(kind, name, place),
+            None => self.enter(new_row(kind, name), place),
         }
     }
 

@@ -1,7 +1,7 @@
 use Rattle.std.proofs.Common.{◌<◌, length, take, rules}
 use Rattle.std.proofs.lemmas.List.{take_more_set}
 use Rattle.lines.proofs.Positions.{position_turns}
-use Rattle.lines.proofs.position.position_list.Goals as goal
+use Rattle.lines.proofs.position.read_position.Goals as goal
 
 pub returns-in_err-number-clause-is : goal.returns-in_err-number-clause-is
 returns-in_err-number-clause-is c = rw (← c.loop-number.invariant.2) (rw (position_turns c.args.at.now.line.now c.loop-number.given (take c.loop-number.given c.loop-number.position) c.loop-number.at.pos c.loop-number.invariant.0) (search rules))

@@ -1,9 +1,0 @@
-use Rattle.std.proofs.Common.{◌≡◌, ◌-◌, ◌++◌, length, drop, replicate, ap, ◌∙◌, ap₂, arith}
-use Rattle.reading.proofs.Padding.{drop-replicate}
-use Rattle.reading.proofs.symbols.padded.Goals as goal
-
-pub returns : goal.returns
-returns c =
-    let n : length c.args.name.now - 0 ≡ length c.args.name.now = omega arith in
-    ap₂ (λ a b. a ++ b) c.copy_from_slice.ensures.after
-    (ap (λ k. drop k (replicate 16 0)) n ∙ drop-replicate 0 (length c.args.name.now) 16 c.requires)
