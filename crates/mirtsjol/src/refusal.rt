@@ -10,7 +10,7 @@ use tokens::Fault;
 const NO_ROOM: u32 = 40;
 
 /// Why a line is refused.
-#[derive(Clone, Copy)]
+#[derive(Clone, Copy, Debug, PartialEq, Eq)]
 pub enum Refusal {
     /// It is no text of a rule line.
     Text(Fault),
