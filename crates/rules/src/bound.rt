@@ -19,6 +19,7 @@ pub(crate) fn bound_variables(bindings: &Bindings) -> &[u32]
 pub(crate) fn bound_words(bindings: &Bindings, k: usize) -> &[u32]
     ensures { result.now ≡ (held_at bindings.now k).words }
 {
+    // No plainer by get: a span past the end is cut off there, and a get would have nothing.
     if k >= BINDINGS {
         return &[];
     }
@@ -28,6 +29,7 @@ pub(crate) fn bound_words(bindings: &Bindings, k: usize) -> &[u32]
 }
 
 /// Whether some variable is bound twice.
+// Marks by index, and no get_mut: the proof did not close over what a borrowed mark leaves behind.
 pub(crate) fn bound_twice(variables: &[u32]) -> bool
     ensures { Decides result (Repeats variables.now) }
 {
