@@ -32,6 +32,7 @@ pub fn read_step_number(at: &mut Cursor<'_>) -> Result<u32, Fault>
 pub fn check_end(at: Cursor<'_>) -> Result<(), Fault>
     ensures { result ≡ line_end at.entry.line.now at.entry.pos }
 {
+    // No `?`: the refusal itself is looked at, since the one at the line's end is what is wanted.
     match next(at.line, at.pos) {
         Ok(lexeme) => Err(Fault::Due(lexeme.place)),
         Err(Fault::Early(_)) => Ok(()),

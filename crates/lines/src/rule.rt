@@ -21,8 +21,7 @@ pub struct RuleLine {
 /// The text of a rule line.
 #[tactic(auto, unfolding(crate::specs::Rules::rule_line))]
 fn read_text(reader: &mut Reader<'_, '_>, out: &mut [u32]) -> Result<RuleLine, Fault>
-    requires { reader.old.at.pos ≡ 0 }
-    ensures is { after_rule result out.new reader.new.symbols reader.new.rows.now ≡ rule_line reader.old.at.line.now out.old reader.old.symbols reader.old.rows.now }
+    ensures is { reader.old.at.pos ≡ 0 → after_rule result out.new reader.new.symbols reader.new.rows.now ≡ rule_line reader.old.at.line.now out.old reader.old.symbols reader.old.rows.now }
     ensures keeps { Keeps reader.old reader.new }
 {
     reader.at.open()?;

@@ -31,8 +31,7 @@ fn read_text<'a, S: Shapes>(
     out: &mut [u32],
     justification: &mut Justification,
 ) -> Result<StepLine<'a>, Fault>
-    requires { reader.old.at.pos ≡ 0 }
-    ensures is { after_step result justification.new out.new reader.new.symbols reader.new.rows.now ≡ step_text reader.old.at.line.now (S.shapes bench.now) out.old reader.old.symbols reader.old.rows.now }
+    ensures is { reader.old.at.pos ≡ 0 → after_step result justification.new out.new reader.new.symbols reader.new.rows.now ≡ step_text reader.old.at.line.now (S.shapes bench.now) out.old reader.old.symbols reader.old.rows.now }
     ensures usable { OnOk result (Usable justification.new) }
     ensures keeps { Keeps reader.old reader.new }
 {

@@ -63,6 +63,7 @@ fn clause_from(words: &[u32], rows: &[SymbolRow], i: usize, most: usize) -> bool
     requires { i ≤ length words.now }
     ensures { Decides result (Spells rows.now most (drop i words.now)) }
 {
+    // `let else` and no `?` here and below: the answer is a bool.
     let Some(&word) = words.get(i) else {
         return true;
     };

@@ -6,7 +6,7 @@ use Rattle.tokens.specs.declared.fault.Fault.TheVariants.{ManyLiterals}
 use Rattle.tokens.specs.Tokens.{Tok, opens, closes, equals, number, variable, word, Lexed, lex}
 use Rattle.reading.specs.Marks.{Mark, Closed, Opened}
 use Rattle.reading.specs.Cursors.{bracket, bracket_at}
-use Rattle.reading.specs.States.{State, ◌>>=◌, ◌then◌, from}
+use Rattle.reading.specs.States.{State, Halt, ◌>>=◌, ◌then◌, from}
 use Rattle.reading.specs.Clauses.{marked, literal_mark, mark_turn, literal, literal_list}
 
 -- a bracket as a mark, where no more may come if `none` holds
@@ -35,7 +35,11 @@ module _ (bs : List ℕ) where
   unfolding literal_list
   literals_suc n st = refl
 
-  pub literals_turn : (given : ℕ) (st : State) → given ≤ 32 → literal_list bs (33 - given) st ≡ (from st (bracket_at bs st.pos then listed ManyLiterals (eqb given 32)) >>= mark_turn (literal bs) (literal_list bs (33 - (given + 1))) st)
+  -- what the next bracket leads to, where so many literals are given
+  abbrev pub literals_from : ℕ → State → Result State Halt
+  literals_from given st = from st (bracket_at bs st.pos then listed ManyLiterals (eqb given 32)) >>= mark_turn (literal bs) (literal_list bs (33 - (given + 1))) st
+
+  pub literals_turn : (given : ℕ) (st : State) → given ≤ 32 → literal_list bs (33 - given) st ≡ literals_from given st
   literals_turn given st few =
       let e : 33 - given ≡ suc (32 - given) = omega arith in
       let f : eqb (32 - given) 0 ≡ eqb given 32 = grind (arith, nat_tests) in

@@ -1,5 +1,5 @@
 -- One binding more.
-use Rattle.std.proofs.Common.{◌≡◌, ℕ, zero, suc, ◌+◌, ◌-◌, ◌<◌, ◌≤◌, eqb, ◌≢◌, List, [], ◌∷◌, ◌++◌, map, length, get_or, take, drop, set, sym, refl, ap, ◌∙◌, subst, ap₂, ⊎_elim, arith}
+use Rattle.std.proofs.Common.{◌≡◌, ℕ, zero, suc, ◌+◌, ◌-◌, ◌<◌, ◌≤◌, eqb, ◌≢◌, List, Result, [], ◌∷◌, ◌++◌, map, length, get_or, take, drop, set, sym, refl, ap, ◌∙◌, subst, ap₂, ⊎_elim, arith}
 use Rattle.std.specs.List.{between, range_with_len}
 use Rattle.std.proofs.lemmas.List.FromFn.{map-range_with_len_more}
 use Rattle.std.proofs.lemmas.List.{get_or-set_same, get_or-set_other, take-take}
@@ -10,9 +10,9 @@ use Rattle.reading.specs.declared.bindings.Bindings.{Bindings}
 use Rattle.reading.specs.Limits as limits
 use Rattle.tokens.specs.declared.fault.Fault.TheVariants.{ManyBindings}
 use Rattle.reading.specs.Cursors.{bracket_at}
-use Rattle.reading.specs.States.{State, ◌>>=◌, ◌then◌, from}
+use Rattle.reading.specs.States.{State, Halt, ◌>>=◌, ◌then◌, from}
 use Rattle.reading.proofs.Lists.{listed, marks_are_brackets}
-use Rattle.reading.specs.Bindings.{Bound, held_at, held, InOrder, Filled, pushed, binding_mark, binding_turn, binding, binding_list}
+use Rattle.reading.specs.Bindings.{Bound, Bounds, held_at, held, InOrder, Filled, pushed, binding_mark, binding_turn, binding, binding_list}
 
 -- no binding
 abbrev pub cleared : Bindings → Bindings
@@ -93,7 +93,11 @@ module _ (bs : List ℕ) where
   unfolding binding_list
   bindings_suc n done st = refl
 
-  pub bindings_turn : (given : ℕ) (done : List Bound) (st : State) → given ≤ limits.bindings → binding_list bs (limits.bindings + 1 - given) done st ≡ (from st (bracket_at bs st.pos then listed ManyBindings (eqb given limits.bindings)) >>= binding_turn (binding bs) (binding_list bs (limits.bindings + 1 - (given + 1))) done st)
+  -- what the next bracket leads to, where these bindings are read
+  abbrev pub bindings_from : ℕ → List Bound → State → Result Bounds Halt
+  bindings_from given done st = from st (bracket_at bs st.pos then listed ManyBindings (eqb given limits.bindings)) >>= binding_turn (binding bs) (binding_list bs (limits.bindings + 1 - (given + 1))) done st
+
+  pub bindings_turn : (given : ℕ) (done : List Bound) (st : State) → given ≤ limits.bindings → binding_list bs (limits.bindings + 1 - given) done st ≡ bindings_from given done st
   bindings_turn given done st few =
       let e : limits.bindings + 1 - given ≡ suc (limits.bindings - given) = omega arith in
       let f : eqb (limits.bindings - given) 0 ≡ eqb given limits.bindings = grind (arith, nat_tests) in

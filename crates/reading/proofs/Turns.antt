@@ -27,7 +27,11 @@ module _ (bs : List ℕ) where
     unfolding args
     args_suc n = refl
 
-    pub args_turn : given ≤ 4 → args bs nested deep (5 - given) given st ≡ (slot_now (eqb given 4) >>= turn nested (args bs nested deep (5 - (given + 1)) (given + 1)) given st)
+    -- what the next slot leads to, where so many arguments are given
+    abbrev pub args_from : Result (ℕ × State) Halt
+    args_from = slot_now (eqb given 4) >>= turn nested (args bs nested deep (5 - (given + 1)) (given + 1)) given st
+
+    pub args_turn : given ≤ 4 → args bs nested deep (5 - given) given st ≡ args_from
     args_turn few =
         let e : 5 - given ≡ suc (4 - given) = omega arith in
         let f : eqb (4 - given) 0 ≡ eqb given 4 = grind (arith, nat_tests) in
@@ -37,11 +41,8 @@ module _ (bs : List ℕ) where
         ∙ ap (λ n. slot_now (eqb given 4) >>= turn nested (args bs nested deep n (given + 1)) given st) g
 
 -- one argument and those after it
-pub args_goes : (bs : List ℕ) (room given : ℕ) (st : State) (a : Argument) (e : ℕ) → given ≤ 4 → 0 < room → slotted (Ok (Some a)) e ≡ slot bs (eqb room 0) (full st.purpose st.count) (eqb given 4) st.pos → args bs (nest bs room) (eqb room 0) (5 - given) given st ≡ (finished bs room a (moved st e) >>= args bs (nest bs room) (eqb room 0) (5 - (given + 1)) (given + 1))
-args_goes bs room given st a e few deep s =
-    args_turn bs (nest bs room) (eqb room 0) given st few
-    ∙ ap (λ r. from st r >>= turn (nest bs room) (args bs (nest bs room) (eqb room 0) (5 - (given + 1)) (given + 1)) given st) (sym s)
-    ∙ by a
+pub args_goes : (bs : List ℕ) (room given : ℕ) (st : State) (a : Argument) (e : ℕ) → 0 < room → slotted (Ok (Some a)) e ≡ slot bs (eqb room 0) (full st.purpose st.count) (eqb given 4) st.pos → args_from bs (nest bs room) (eqb room 0) given st ≡ (finished bs room a (moved st e) >>= args bs (nest bs room) (eqb room 0) (5 - (given + 1)) (given + 1))
+args_goes bs room given st a e deep s = ap (λ r. from st r >>= turn (nest bs room) (args bs (nest bs room) (eqb room 0) (5 - (given + 1)) (given + 1)) given st) (sym s) ∙ by a
   where
     by : (b : Argument) → (from st (slotted (Ok (Some b)) e) >>= turn (nest bs room) (args bs (nest bs room) (eqb room 0) (5 - (given + 1)) (given + 1)) given st) ≡ (finished bs room b (moved st e) >>= args bs (nest bs room) (eqb room 0) (5 - (given + 1)) (given + 1))
     by (Variable i) = refl

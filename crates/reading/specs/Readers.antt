@@ -56,9 +56,9 @@ HasRoom room given None = Unit {0}
 HasRoom room given (Some a) = (0 < room) × (given ≢ limits.arguments)
 
 -- a clause that was read: its count of words is the reader's
-abbrev pub worded : Result ℕ Fault → Reader → List ℕ → Result State Halt
-worded (Ok n) r out = Ok (record { purpose = r.purpose; pos = r.at.pos; count = n; out = out; symbols = r.symbols; rows = r.rows.now })
-worded (Err f) r out = Err (halt f r.symbols r.rows.now)
+abbrev pub clause_read : Result ℕ Fault → Reader → List ℕ → Result State Halt
+clause_read (Ok n) r out = Ok (record { purpose = r.purpose; pos = r.at.pos; count = n; out = out; symbols = r.symbols; rows = r.rows.now })
+clause_read (Err f) r out = Err (halt f r.symbols r.rows.now)
 
 -- a binding that was read, whose words begin at `start`
 abbrev pub after_binding : Result ℕ Fault → ℕ → Reader → List ℕ → Result (Bound × State) Halt

@@ -14,7 +14,7 @@ use tokens::{Fault, Token, next};
 pub(crate) const ROOM: u32 = DEPTH as u32;
 
 impl Reader<'_, '_> {
-    ghost use Rattle.reading.specs.Readers.{seen, Goes, Keeps, done, worded};
+    ghost use Rattle.reading.specs.Readers.{seen, Goes, Keeps, done, clause_read};
 
     /// The two sides of an equation and its closing bracket.
     #[tactic(auto, unfolding(crate::specs::Clauses::sides))]
@@ -90,7 +90,7 @@ impl Reader<'_, '_> {
 
     /// The clause that is due: how many words it has. Its words go to `out`, and those that find no room there are only counted.
     pub fn clause(&mut self, purpose: Purpose, out: &mut [u32]) -> Result<usize, Fault>
-        ensures is { worded result self.new out.new ≡ clause_from self.old.at.line.now purpose self.old.at.pos out.old self.old.symbols self.old.rows.now }
+        ensures is { clause_read result self.new out.new ≡ clause_from self.old.at.line.now purpose self.old.at.pos out.old self.old.symbols self.old.rows.now }
         ensures line { self.new.at.line ≡ self.old.at.line }
         ensures keeps { Keeps self.old self.new }
     {

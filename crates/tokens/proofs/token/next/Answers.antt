@@ -11,9 +11,6 @@ slice_bounds-class-end c =
     let inside = past_within Run c.args.line.now c.past-place.result (omega arith) in
     search rules
 
-pub class-token-requires : goal.class-token-requires
-class-token-requires c = simp c.past-end.ensures (part_some Run _ _ c.if-place-line.false (sym c.if-has.ensures))
-
 pub returns : goal.returns
 unfolding lex
 returns c =
