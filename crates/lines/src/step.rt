@@ -52,6 +52,7 @@ fn read_text<'a, S: Shapes>(
     })
 }
 
+// The rows and their count stay two parameters, as in `read_rule`.
 /// Reads `(step N justification clause)`: the clause's words go to `out`, what stands behind the keyword to `justification`. The count of
 /// symbols stays as it was, and so do their rows where the arities are fixed.
 pub fn read_step<'a, S: Shapes>(
@@ -68,6 +69,7 @@ pub fn read_step<'a, S: Shapes>(
     ensures kept { Fixed symbols.old rows.old → rows.new ≡ rows.old }
 {
     check_count(rows, *symbols)?;
+    // Written out as in `read_rule`, for the reason given there.
     let mut reader = Reader {
         purpose: Purpose::Step,
         at: Cursor { line, pos: 0 },

@@ -1,6 +1,6 @@
 -- Where terms and literals lie in the words of a clause.
 use Rattle.std.proofs.Common.{◌≡◌, ℕ, zero, suc, ◌+◌, ◌-◌, ◌<◌, ◌≤◌, Bool, true, false, cond, eqb, ltb, List, [], ◌∷◌, ◌++◌, length, get_or, take, drop, sym, refl, ap, ◌∙◌, subst, ap₂, append_assoc, append-nil, suc-add, zero-add, arith, length-append, take-append-drop, drop-cons}
-use lib.Seq.{drop-append-add}
+use lib.Seq.{take-append_seam, drop-append_seam, drop-append-add}
 use Rattle.std.proofs.lemmas.Bool.{lt-ltb, le-ltb, ne_eqb}
 use Rattle.std.proofs.lemmas.List.{drop_all}
 use Rattle.logic.specs.declared.row.SymbolRow.{SymbolRow}
@@ -22,6 +22,12 @@ words_append (l ∷ c) d =
 
 pub apart : (c : Clause) (k : ℕ) → clause_words c ≡ clause_words (take k c) ++ clause_words (drop k c)
 apart c k = ap clause_words (sym (take-append-drop k c)) ∙ words_append (take k c) (drop k c)
+
+pub take-literals : (c : Clause) (k : ℕ) → clause_words (take k c) ≡ take (begins c k) (clause_words c)
+take-literals c k = sym (ap (take (begins c k)) (apart c k) ∙ take-append_seam (clause_words (take k c)) (clause_words (drop k c)))
+
+pub drop-literals : (c : Clause) (k : ℕ) → clause_words (drop k c) ≡ drop (begins c k) (clause_words c)
+drop-literals c k = sym (ap (drop (begins c k)) (apart c k) ∙ drop-append_seam (clause_words (take k c)) (clause_words (drop k c)))
 
 -- the words before, of and behind a literal
 pub words_around : (c : Clause) (k : ℕ) (d : Literal) → k < length c

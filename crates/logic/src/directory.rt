@@ -6,6 +6,7 @@ ghost use Rattle.logic.specs.Directory.{first_that};
 pub trait Keyed<Q> {
     ghost has: { Self → Q → Bool };
 
+    // No `==`: a row and its key have two types, and a row may have several keys.
     /// Whether the row has this key.
     fn is(&self, key: &Q) -> bool
         ensures { result ≡ has self.now key.now };

@@ -7,6 +7,7 @@ use crate::limits::{ARGUMENTS, NAME_BYTES};
 use crate::row::{Kind, SymbolRow};
 
 /// A symbol record: a name of 1 to 16 lawful bytes, a kind, and an arity of at most 4.
+// Bytes with a length, as in the row that it is made of: no record is allocated.
 #[derive(Clone, Copy, PartialEq, Eq)]
 pub struct Symbol {
     name: [u8; NAME_BYTES],

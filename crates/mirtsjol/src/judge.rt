@@ -7,6 +7,7 @@ use crate::refusal::Refusal;
 use lines::read_rule;
 use logic::SymbolRow;
 
+// The rows and their count stay two parameters here and in `judge`, as in `read_rule`, which they are handed to.
 /// Reads a rule line whose words find room: how many they are, first in the store.
 #[tactic(auto, using(crate::proofs::Kept::rule_fixed, crate::proofs::Kept::still_fixed))]
 fn read(

@@ -7,5 +7,6 @@ pub mod Marks
 pub mod Clauses
 pub mod Cursors
 pub mod Readers
+pub mod Alone
 pub mod Fixed
 pub mod Bindings

@@ -91,6 +91,8 @@ impl Reader<'_, '_> {
     /// The clause that is due: how many words it has. Its words go to `out`, and those that find no room there are only counted.
     pub fn clause(&mut self, purpose: Purpose, out: &mut [u32]) -> Result<usize, Fault>
         ensures is { clause_read result self.new out.new ≡ clause_from self.old.at.line.now purpose self.old.at.pos out.old self.old.symbols self.old.rows.now }
+        ensures count { IfOk result (λ n. n ≡ self.new.count) }
+        ensures purpose { self.new.purpose ≡ purpose }
         ensures line { self.new.at.line ≡ self.old.at.line }
         ensures keeps { Keeps self.old self.new }
     {

@@ -26,6 +26,10 @@ module _ (σ : Substitution) where
   pub head_image : (w : ℕ) → language.variables ≤ w → word_image σ w ≡ w ∷ []
   head_image w h = cond-false (ltb w language.variables) (term_words (σ w)) (w ∷ []) (le-ltb w language.variables h)
 
+  -- part after part
+  images-append : (xs ys : List ℕ) → flat_map (word_image σ) (xs ++ ys) ≡ flat_map (word_image σ) xs ++ flat_map (word_image σ) ys
+  images-append = flat_map-append (word_image σ)
+
   head_stays : (w : ℕ) (ws : List ℕ) → language.variables ≤ w → flat_map (word_image σ) (w ∷ ws) ≡ w ∷ flat_map (word_image σ) ws
   head_stays w ws h = ap (λ r. r ++ flat_map (word_image σ) ws) (head_image w h)
 

@@ -37,7 +37,7 @@ module _ (rows : List SymbolRow) where
       (λ e. literal_is l m (subst T (sym e) tt), λ e. is_true (same_literal l m) (literal_same l m e))
 
   -- a literal stands among those of a clause as its words do among theirs
-  among : (l : Literal) (d : Clause) → LawfulAtom rows l.atom → AllLawful rows d → list_any (bytes_eq (literal_words l)) (map literal_words d) ≡ stands_in l d
+  pub among : (l : Literal) (d : Clause) → LawfulAtom rows l.atom → AllLawful rows d → list_any (bytes_eq (literal_words l)) (map literal_words d) ≡ stands_in l d
   among l [] g h = refl
   among l (m ∷ d) g h = ap₂ ◌||◌ (same_words l m g h.0) (among l d g h.1)
 

@@ -29,7 +29,7 @@ pub(crate) fn bound_words(bindings: &Bindings, k: usize) -> &[u32]
 }
 
 /// Whether some variable is bound twice.
-// Marks by index, and no get_mut: the proof did not close over what a borrowed mark leaves behind.
+// Marks in an array, since checking allocates nothing; by index, since with get_mut the proof did not close (tried).
 pub(crate) fn bound_twice(variables: &[u32]) -> bool
     ensures { Decides result (Repeats variables.now) }
 {

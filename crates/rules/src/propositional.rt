@@ -1,6 +1,6 @@
 //! The inference rule `propositional`: literals change their order, are repeated, or are merged where they are the same.
 ghost use Rattle.std.specs.Prelude.{◌≡◌, false, refl};
-ghost use Rattle.rules.specs.Among.{stands_among, AllAmong, SameAmong};
+ghost use Rattle.rules.specs.Among.{stands_among, StandsAmong, AllAmong, SameAmong};
 ghost use Rattle.rules.specs.Six.{propositional_rule};
 ghost use Rattle.rules.specs.Laws.{propositional_keeps};
 
@@ -20,7 +20,8 @@ impl Inference for Propositional {
 
 /// Whether the literal stands among those of the clause.
 fn stands_among(literal: &[u32], clause: &[u32], rows: &[SymbolRow]) -> bool
-    ensures { result ≡ stands_among rows.now literal.now clause.now }
+    ensures is { result ≡ stands_among rows.now literal.now clause.now }
+    ensures literal { StandsAmong rows.now literal.now clause.now result }
 {
     Literals::of(clause, rows).any(|other| same(literal, other))
 }

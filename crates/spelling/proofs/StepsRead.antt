@@ -39,6 +39,10 @@ use Rattle.spelling.proofs.SealedTables.{appear_sealed, rows_sealed}
 
 -- ── Words where they were written ──
 
+pub length-pour : (out : List ℕ) (n : ℕ) (ws : List ℕ) → length (pour out n ws) ≡ length out
+length-pour out n [] = refl
+length-pour out n (w ∷ ws) = length-pour (set out n w) (n + 1) ws ∙ length-set out n w
+
 pour_fits : (out : List ℕ) (n : ℕ) (ws : List ℕ) → n + length ws ≤ length out → pour out n ws ≡ take n out ++ (ws ++ drop (n + length ws) out)
 pour_fits out n [] h =
     let e : n ≡ n + 0 = omega arith in

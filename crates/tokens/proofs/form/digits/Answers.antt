@@ -15,4 +15,3 @@ overflow_add-n c =
     let t : digit (get_or c.args.run.now c.loop-byte.byte-index 0) ≡ true = cc in
     let b = is_digit (get_or c.args.run.now c.loop-byte.byte-index 0) t in
     omega (arith, ten_small c.loop-byte.byte-index (omega arith))
-
