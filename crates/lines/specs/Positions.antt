@@ -37,7 +37,7 @@ abbrev pub position_read : Result ℕ Fault → List ℕ → Cursor → Result (
 position_read (Ok n) numbers c = Ok (take n numbers, c.pos)
 position_read (Err f) numbers c = Err f
 
--- reading has gone on in the same line, never back
+-- a relation of a cursor before a call and after it, which no invariant can state: in the same line, and never back
 abbrev pub StaysInLine : Cursor → Cursor → Type 0
 StaysInLine c d = (d.line ≡ c.line) × (c.pos ≤ d.pos)
 

@@ -7,7 +7,7 @@ ghost use Rattle.lines.specs.Positions.{StaysInLine};
 ghost use Rattle.lines.specs.Justifications.{few_read, few_at, after_keyword, keyword_at, after_cited, cited_at, numbers_and_end, bindings_part, Usable, after_justification, justification_at};
 
 use crate::number::read_number;
-use crate::position::{POSITION_NUMBERS, read_position_part};
+use crate::position::{POSITION_NUMBERS, read_position};
 use crate::shape::{Shape, Shapes};
 use reading::{Bindings, Cursor, Reader};
 use tokens::Fault;
@@ -85,25 +85,6 @@ fn read_cited<'a, S: Shapes>(at: &mut Cursor<'a>, bench: &S) -> Result<Cited<'a>
     })
 }
 
-/// The bindings, where they are due at all.
-fn read_bindings_part(
-    reader: &mut Reader<'_, '_>,
-    bindings: &mut Bindings,
-    due: bool,
-) -> Result<(), Fault>
-    ensures is { after_bindings result bindings.new reader.new ≡ bindings_part reader.old.at.line.now due reader.old.at.pos reader.old.symbols reader.old.rows.now }
-    ensures ordered { OnOk result (InOrder bindings.new) }
-    ensures line { reader.new.at.line ≡ reader.old.at.line }
-    ensures keeps { Keeps reader.old reader.new }
-{
-    if due {
-        reader.bindings(bindings)
-    } else {
-        bindings.count = 0;
-        Ok(())
-    }
-}
-
 /// The justification that is due.
 #[tactic(auto, unfolding(crate::specs::Justifications::justification_at))]
 pub fn read_justification<'a, S: Shapes>(
@@ -113,17 +94,21 @@ pub fn read_justification<'a, S: Shapes>(
 ) -> Result<Keyword<'a>, Fault>
     ensures is { after_justification result justification.new reader.new ≡ justification_at reader.old.at.line.now (S.shapes bench.now) reader.old.at.pos reader.old.symbols reader.old.rows.now }
     ensures usable { OnOk result (Usable justification.new) }
-    ensures line { reader.new.at.line ≡ reader.old.at.line }
     ensures keeps { Keeps reader.old reader.new }
 {
     reader.at.open()?;
     let cited = read_cited(&mut reader.at, bench)?;
     let shape = cited.keyword.shape;
-    let steps = read_position_part(&mut reader.at, &mut justification.position, shape.position)?;
-    read_bindings_part(reader, &mut justification.bindings, shape.bindings)?;
+    justification.steps = 0;
+    if shape.position {
+        justification.steps = read_position(&mut reader.at, &mut justification.position)?;
+    }
+    justification.bindings.count = 0;
+    if shape.bindings {
+        reader.bindings(&mut justification.bindings)?;
+    }
     reader.at.close()?;
     justification.premises = cited.premises;
     justification.literals = cited.literals;
-    justification.steps = steps;
     Ok(cited.keyword)
 }

@@ -2,7 +2,7 @@
 ghost use Rattle.std.specs.Prelude.{◌≡◌, ◌+◌, ◌<◌, ◌≤◌, IfOk, IfSome, [], ◌≢◌, ◌==◌};
 ghost use Rattle.lines.specs.Limits.{position_numbers};
 ghost use Rattle.reading.specs.Cursors.{Onward};
-ghost use Rattle.lines.specs.Positions.{turned_to, position_mark, position_read, position_at, position_part, StaysInLine};
+ghost use Rattle.lines.specs.Positions.{turned_to, position_mark, position_read, position_at, StaysInLine};
 
 use reading::Cursor;
 use tokens::{Fault, Token};
@@ -28,7 +28,7 @@ fn next_number(at: &mut Cursor<'_>, given: usize) -> Result<Option<u32>, Fault>
 }
 
 /// The position that is due: how many numbers it has.
-fn read_position(
+pub fn read_position(
     at: &mut Cursor<'_>,
     position: &mut [u32; POSITION_NUMBERS],
 ) -> Result<usize, Fault>
@@ -44,21 +44,4 @@ fn read_position(
         given += 1;
     }
     Ok(given)
-}
-
-/// The position, where one is due at all.
-pub fn read_position_part(
-    at: &mut Cursor<'_>,
-    position: &mut [u32; POSITION_NUMBERS],
-    due: bool,
-) -> Result<usize, Fault>
-    ensures is { position_read result position.new at.new ≡ position_part at.old.line.now due at.old.pos }
-    ensures few { IfOk result (λ n. n ≤ position_numbers) }
-    ensures on { StaysInLine at.old at.new }
-{
-    if due {
-        read_position(at, position)
-    } else {
-        Ok(0)
-    }
 }

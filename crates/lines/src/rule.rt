@@ -38,7 +38,8 @@ fn read_text(reader: &mut Reader<'_, '_>, out: &mut [u32]) -> Result<RuleLine, F
     })
 }
 
-// The rows and their count stay two parameters: a caller may have any count, which 42 refuses, and a type with the bound could not hold it.
+// The rows and their count stay two parameters: a caller may have any count, which is refused with 42; and of a slice in a struct that is
+// itself a field, the check loses what becomes of it (tried).
 /// Reads `(rule N clause)`: the clause's words go to `out`, new names become symbols. Whether the line is read or refused, no symbol is lost,
 /// their count stays within its bounds, and the rows of those counted before the line stay as they were where the arities are fixed.
 pub fn read_rule(
@@ -52,7 +53,8 @@ pub fn read_rule(
     ensures counted { (symbols.old ≤ symbols.new) × ((symbols.old ≤ length rows.old) × (symbols.old ≤ symbol_room) → (symbols.new ≤ length rows.new) × (symbols.new ≤ symbol_room)) }
 {
     check_count(rows, *symbols)?;
-    // Written out here and in `read_step`: from a constructor that may refuse, the caller does not learn what the rows are then (tried).
+    // Written out here, in `read_step` and in `reading`: of a constructor that may refuse, the caller does not learn what the rows are then
+    // (tried). What is read and the count are set by `clause`.
     let mut reader = Reader {
         purpose: Purpose::Rule,
         at: Cursor { line, pos: 0 },

@@ -8,7 +8,7 @@ ghost use Rattle.reading.specs.Fixed.{Fixed};
 use logic::SymbolRow;
 
 /// The stores, and how many symbols are counted: within the store and the limit, each with a fixed arity.
-// A store with a count beside it: a reader is lent the whole store of rows and counts those that it uses.
+// A filled store with a count beside it: reading allocates nothing, so it is lent all rows and counts those that it uses.
 #[derive(Drop)]
 pub struct Session {
     rows: Vec<SymbolRow>,

@@ -1,5 +1,5 @@
 -- What reading from a cursor on has done.
-use Rattle.std.specs.Prelude.{◌≡◌, ℕ, ◌<◌, ◌≤◌, Bool, true, false, cond, List, length, Some, None, Ok, Err, Option, Result, OnOk}
+use Rattle.std.specs.Prelude.{◌≡◌, ℕ, ◌<◌, ◌≤◌, Bool, true, false, cond, List, length, Some, None, Ok, Err, Option, Result, OnOk, IfOk}
 use Rattle.std.specs.Str.{bytes_eq}
 use Rattle.tokens.specs.declared.fault.Fault.{Fault}
 use Rattle.tokens.specs.declared.fault.Fault.TheVariants.{Due}
@@ -36,6 +36,18 @@ same_token _ _ = false
 -- where a certain token is due: the place behind it
 abbrev pub awaited : Tok → List ℕ → ℕ → Result ℕ Fault
 awaited t bs p = lex bs p then λ l. cond (same_token l.tok t) (Ok l.end) (Err (Due l.place))
+
+-- whether a certain token stands next, and the place behind it if it does, else the place before it
+abbrev pub ate : Tok → List ℕ → ℕ → Result (Bool × ℕ) Fault
+ate t bs p = lex bs p then λ l. cond (same_token l.tok t) (Ok (true, l.end)) (Ok (false, p))
+
+abbrev pub eaten : Result Bool Fault → Cursor → Result (Bool × ℕ) Fault
+eaten (Ok b) c = Ok (b, c.pos)
+eaten (Err f) c = Err f
+
+-- reading stays in the same line and never goes back; where a token was read, it stands behind it
+abbrev pub Still : Cursor → Cursor → Result Bool Fault → Type 0
+Still c d r = (d.line ≡ c.line) × (c.pos ≤ d.pos) × IfOk r (λ b. b ≡ true → c.pos < d.pos)
 
 -- where one more of a list or its closing bracket is due: the place of the opening bracket, or none, and the place behind the token
 abbrev pub bracket : ℕ → ℕ → Tok → Result (Option ℕ × ℕ) Fault

@@ -31,17 +31,17 @@ counted (Err f) r out = Err (halt f r.symbols r.rows.now)
 -- Keeps, Enters and Goes relate a reader before a call and after it, which no invariant of the type can do; so they stand in each
 -- contract, by their names.
 
--- the store of symbols is the same one, and no symbol is lost
+-- the line is the same and the store of symbols the same one, and no symbol is lost
 abbrev pub Keeps : Reader → Reader → Type 0
-Keeps r s = (s.rows.ghost_name ≡ r.rows.ghost_name) × (r.symbols ≤ s.symbols)
+Keeps r s = (s.at.line ≡ r.at.line) × (s.rows.ghost_name ≡ r.rows.ghost_name) × (r.symbols ≤ s.symbols)
 
--- nothing has gone on but the symbols
+-- nothing is altered but the symbols and their store
 abbrev pub Enters : Reader → Reader → Type 0
 Enters r s = (s.at ≡ r.at) × (s.purpose ≡ r.purpose) × (s.count ≡ r.count) × Keeps r s
 
--- reading has gone on in the same line, never back, for the same purpose; the store of symbols is the same one, and no symbol is lost
+-- reading has not gone back, and goes on for the same purpose; the rest is kept
 abbrev pub Goes : Reader → Reader → Type 0
-Goes r s = (s.at.line ≡ r.at.line) × (r.at.pos ≤ s.at.pos) × (s.purpose ≡ r.purpose) × Keeps r s
+Goes r s = (r.at.pos ≤ s.at.pos) × (s.purpose ≡ r.purpose) × Keeps r s
 
 -- an argument or the closing bracket, with the place behind it
 abbrev pub slotted : Result (Option Argument) Fault → ℕ → Result Slot Fault

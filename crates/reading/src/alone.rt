@@ -34,6 +34,7 @@ pub fn read_clause(
     ensures counted { OnOk result ((symbols.new ≤ length rows.old) × (symbols.new ≤ most_symbols)) }
 {
     check_count(rows, *symbols)?;
+    // Written out here and below, for the reason given at `read_rule` of `lines`.
     let mut reader = Reader {
         purpose,
         at: Cursor { line, pos: from },

@@ -3,9 +3,9 @@ ghost use Rattle.std.specs.Prelude.{◌≡◌, ◌+◌, ◌-◌, ◌<◌, ◌≤
 ghost use Rattle.reading.specs.Limits.{bindings as most_bindings, binding_words};
 ghost use Rattle.reading.specs.Bindings.{binding as binding_of, InOrder, Filled, held, pushed, binding_list, bindings_at};
 
-use crate::clause::ROOM;
 use crate::purpose::{BINDING_WORDS, Purpose};
 use crate::reader::Reader;
+use logic::DEPTH;
 use tokens::Fault;
 
 /// How many bindings a list may have.
@@ -51,7 +51,7 @@ impl Reader<'_, '_> {
         ensures goes { Goes self.old self.new }
     {
         let variable = self.at.variable()?;
-        self.term(terms, ROOM)?;
+        self.term(terms, DEPTH)?;
         self.at.close()?;
         Ok(variable)
     }
@@ -78,7 +78,6 @@ impl Reader<'_, '_> {
     pub fn bindings(&mut self, bindings: &mut Bindings) -> Result<(), Fault>
         ensures is { after_bindings result bindings.new self.new ≡ bindings_at self.old.at.line.now self.old.at.pos self.old.symbols self.old.rows.now }
         ensures ordered { OnOk result (InOrder bindings.new) }
-        ensures line { self.new.at.line ≡ self.old.at.line }
         ensures keeps { Keeps self.old self.new }
     {
         self.purpose = Purpose::Binding;

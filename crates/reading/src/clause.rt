@@ -8,10 +8,7 @@ use crate::purpose::Purpose;
 use crate::reader::Reader;
 use crate::term::Role;
 use logic::{DEPTH, EQUALITY_WORD, Kind, LITERALS, NEGATION, SYMBOL_WORD};
-use tokens::{Fault, Token, next};
-
-/// How deep a term may go.
-pub(crate) const ROOM: u32 = DEPTH as u32;
+use tokens::{Fault, Token};
 
 impl Reader<'_, '_> {
     ghost use Rattle.reading.specs.Readers.{seen, Goes, Keeps, done, clause_read};
@@ -22,8 +19,8 @@ impl Reader<'_, '_> {
         ensures is { done result self.new out.new ≡ sides_of self.old.at.line.now (seen self.old out.old) }
         ensures goes { Goes self.old self.new }
     {
-        self.term(out, ROOM)?;
-        self.term(out, ROOM)?;
+        self.term(out, DEPTH)?;
+        self.term(out, DEPTH)?;
         self.at.close()
     }
 
@@ -33,16 +30,14 @@ impl Reader<'_, '_> {
         ensures is { done result self.new out.new ≡ atom_of self.old.at.line.now sign (seen self.old out.old) }
         ensures goes { Goes self.old self.new }
     {
-        let lexeme = next(self.at.line, self.at.pos)?;
-        if lexeme.token == Token::Equals {
-            self.at.pos = lexeme.end;
+        if self.at.eat(Token::Equals)? {
             self.write(out, sign + EQUALITY_WORD);
             return self.sides(out);
         }
         let role = Role {
             base: sign + SYMBOL_WORD,
             kind: Kind::Predicate,
-            room: ROOM,
+            room: DEPTH,
         };
         self.application(out, role)
     }
@@ -64,9 +59,7 @@ impl Reader<'_, '_> {
         ensures is { done result self.new out.new ≡ literal_of self.old.at.line.now (seen self.old out.old) }
         ensures goes { Goes self.old self.new }
     {
-        let lexeme = next(self.at.line, self.at.pos)?;
-        if lexeme.token == Token::Name(b"not") {
-            self.at.pos = lexeme.end;
+        if self.at.eat(Token::Name(b"not"))? {
             return self.negated(out);
         }
         self.atom(out, 0)
@@ -78,6 +71,7 @@ impl Reader<'_, '_> {
         ensures goes { Goes self.old self.new }
     {
         let mut given = 0;
+        // Counted by hand: the list ends at its bracket, which no iterator over a count gives.
         while let Some(place) = self.at.another()? {
             if given == LITERALS {
                 return Err(Fault::ManyLiterals(place));
@@ -93,7 +87,6 @@ impl Reader<'_, '_> {
         ensures is { clause_read result self.new out.new ≡ clause_from self.old.at.line.now purpose self.old.at.pos out.old self.old.symbols self.old.rows.now }
         ensures count { IfOk result (λ n. n ≡ self.new.count) }
         ensures purpose { self.new.purpose ≡ purpose }
-        ensures line { self.new.at.line ≡ self.old.at.line }
         ensures keeps { Keeps self.old self.new }
     {
         self.purpose = purpose;

@@ -3,7 +3,7 @@ ghost use Rattle.std.specs.Prelude.{◌≡◌, IfOk};
 ghost use Rattle.tokens.specs.Tokens.{lex, seen, tok};
 ghost use Rattle.reading.specs.Clauses.{opening, closing, wording};
 ghost use Rattle.reading.specs.Bindings.{variable_at};
-ghost use Rattle.reading.specs.Cursors.{Onward, reached, found, awaited, bracketed, bracket_at};
+ghost use Rattle.reading.specs.Cursors.{Onward, Still, reached, found, awaited, eaten, ate, bracketed, bracket_at};
 
 use tokens::{Fault, Lexeme, Token, variable};
 
@@ -37,6 +37,19 @@ impl<'a> Cursor<'a> {
         } else {
             Err(Fault::Due(lexeme.place))
         }
+    }
+
+    /// Reads the token if it stands next, and says whether it does; else reading does not go on.
+    pub fn eat(&mut self, wanted: Token<'_>) -> Result<bool, Fault>
+        ensures is { eaten result self.new ≡ ate (tok wanted.entry) self.old.line.now self.old.pos }
+        ensures on { Still self.old self.new result }
+    {
+        let lexeme = tokens::next(self.line, self.pos)?;
+        if lexeme.token != wanted {
+            return Ok(false);
+        }
+        self.pos = lexeme.end;
+        Ok(true)
     }
 
     /// Reads the opening bracket that is due.

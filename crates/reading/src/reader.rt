@@ -48,6 +48,7 @@ impl Reader<'_, '_> {
         ensures is { seen self.new out.new ≡ written (seen self.old out.old) self.old.at.pos word }
         ensures goes { Goes self.old self.new }
     {
+        // The place is read here, so that a count below it is known to have room for one more.
         prove!(self.count < self.at.pos);
         put(out, self.count, word);
         self.count += 1;

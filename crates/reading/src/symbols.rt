@@ -10,7 +10,7 @@ use logic::{ARGUMENTS, Kind, NAME_BYTES, SYMBOLS, SymbolRow, symbol_named};
 use tokens::Fault;
 
 /// The arity of a symbol whose first closing bracket is still to come.
-// A number and no `Option`: a row of the store is plain numbers, of which anything may have been written.
+// A number and no `Option`: a row may have any arity, and each above 4 counts as open; a type without them would ask more of callers.
 const OPEN_ARITY: u8 = 255;
 
 /// Refuses a count of symbols that exceeds their store, of which at most 256 rows are used.
@@ -89,7 +89,7 @@ impl Reader<'_, '_> {
     }
 
     /// The closing bracket fixes an open arity, or holds the symbol to its own.
-    pub(crate) fn settle(&mut self, symbol: usize, given: u32, place: usize) -> Result<(), Fault>
+    pub(crate) fn settle(&mut self, symbol: usize, given: usize, place: usize) -> Result<(), Fault>
         requires { (symbol < self.old.symbols) × (given ≤ most_arguments) }
         ensures is { settled result self.new.rows.now ≡ settle_of self.old.rows.now symbol given place }
         ensures kept { OnErr result (self.new.rows.now ≡ self.old.rows.now) }
@@ -97,11 +97,11 @@ impl Reader<'_, '_> {
         ensures enters { Enters self.old self.new }
     {
         let row = self.rows[symbol];
-        if row.arity as usize > ARGUMENTS {
+        if usize::from(row.arity) > ARGUMENTS {
             self.rows[symbol].arity = given as u8;
             return Ok(());
         }
-        if u32::from(row.arity) != given {
+        if usize::from(row.arity) != given {
             return Err(Fault::OtherArity(place));
         }
         Ok(())

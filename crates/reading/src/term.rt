@@ -9,10 +9,8 @@ use crate::reader::Reader;
 use logic::{ARGUMENTS, Kind, SYMBOL_WORD};
 use tokens::{Fault, Token, variable};
 
-/// How many arguments a term or an atom may have.
-const MOST: u32 = ARGUMENTS as u32;
-
 /// An argument, as far as its first token: a variable is whole, a term is opened.
+// No `Option`: an argument is itself optional, and none would not say that a term is opened.
 #[derive(Clone, Copy, PartialEq, Eq)]
 pub(crate) enum Argument {
     Variable(u32),
@@ -24,11 +22,11 @@ pub(crate) enum Argument {
 pub(crate) struct Role {
     pub base: u32,
     pub kind: Kind,
-    pub room: u32,
+    pub room: usize,
 }
 
 /// Depth, words and number of an argument, in this order.
-fn fitting(room: u32, words: bool, given: u32, place: usize) -> Result<(), Fault>
+fn fitting(room: usize, words: bool, given: usize, place: usize) -> Result<(), Fault>
     ensures { result ≡ fitting_of (room == 0) words (given == most_arguments) place (Ok tt) }
 {
     if room == 0 {
@@ -37,7 +35,7 @@ fn fitting(room: u32, words: bool, given: u32, place: usize) -> Result<(), Fault
     if words {
         return Err(Fault::ManyWords(place));
     }
-    if given == MOST {
+    if given == ARGUMENTS {
         return Err(Fault::ManyArguments(place));
     }
     Ok(())
@@ -47,7 +45,7 @@ impl Reader<'_, '_> {
     ghost use Rattle.reading.specs.Readers.{seen, Goes, done, counted, slotted, HasRoom, finished};
 
     /// The argument that is due, as far as its first token, or none where the closing bracket stands.
-    fn argument(&mut self, room: u32, given: u32) -> Result<Option<Argument>, Fault>
+    fn argument(&mut self, room: usize, given: usize) -> Result<Option<Argument>, Fault>
         ensures is { slotted result self.new.at.pos ≡ slot_of self.old.at.line.now (room == 0) (full_of self.old.purpose self.old.count) (given == most_arguments) self.old.at.pos }
         ensures on { IfOk result (λ a. (self.old.at.pos < self.new.at.pos) × HasRoom room given a) }
         ensures same { (self.new.count ≡ self.old.count) × (self.new.symbols ≡ self.old.symbols) × (self.new.rows.now ≡ self.old.rows.now) }
@@ -86,12 +84,13 @@ impl Reader<'_, '_> {
 
     /// The arguments up to the closing bracket: how many.
     #[cycle(application_arguments)]
-    fn arguments(&mut self, out: &mut [u32], room: u32) -> Result<u32, Fault>
+    fn arguments(&mut self, out: &mut [u32], room: usize) -> Result<usize, Fault>
         ensures is { counted result self.new out.new ≡ args self.old.at.line.now (nest self.old.at.line.now room) (room == 0) (most_arguments + 1) 0 (seen self.old out.old) }
         ensures few { IfOk result (λ n. n ≤ most_arguments) }
         ensures goes { Goes self.old self.new }
     {
         let mut given = 0;
+        // Counted by hand: the list ends at its bracket, which no iterator over a count gives.
         while let Some(argument) = self.argument(room, given)? {
             self.finish(out, argument, room)?;
             given += 1;
@@ -101,7 +100,7 @@ impl Reader<'_, '_> {
 
     /// The rest of an argument behind its first token.
     #[cycle(application_arguments)]
-    fn finish(&mut self, out: &mut [u32], argument: Argument, room: u32) -> Result<(), Fault>
+    fn finish(&mut self, out: &mut [u32], argument: Argument, room: usize) -> Result<(), Fault>
         requires { (0 < room) × (self.old.count < self.old.at.pos) }
         ensures is { done result self.new out.new ≡ finished self.old.at.line.now room argument (seen self.old out.old) }
         ensures goes { Goes self.old self.new }
@@ -123,7 +122,7 @@ impl Reader<'_, '_> {
     }
 
     /// A term that may go `room` deep.
-    pub(crate) fn term(&mut self, out: &mut [u32], room: u32) -> Result<(), Fault>
+    pub(crate) fn term(&mut self, out: &mut [u32], room: usize) -> Result<(), Fault>
         ensures is { done result self.new out.new ≡ term_of self.old.at.line.now room (seen self.old out.old) }
         ensures goes { Goes self.old self.new }
     {

@@ -19,11 +19,11 @@ pub const WORDS: usize = 1_048_576;
 
 impl Session {
     /// A session that has met no symbol.
-    pub fn new(heap: Global) -> Result<Session, AllocError>
+    pub fn new(alloc: Global) -> Result<Session, AllocError>
         ensures { IfOk result (λ s. (s.symbols ≡ 0) × (vec_len s.rows ≡ symbol_room) × (vec_len s.words ≡ word_room)) }
     {
-        let rows = vec![in heap; SymbolRow::default(); SYMBOLS]?;
-        let words = vec![in heap; 0; WORDS]?;
+        let rows = vec![in alloc; SymbolRow::default(); SYMBOLS]?;
+        let words = vec![in alloc; 0; WORDS]?;
         Ok(Session {
             rows,
             symbols: 0,
