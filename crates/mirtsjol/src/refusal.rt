@@ -43,8 +43,8 @@ impl Refusal {
 impl From<Fault> for Refusal {
     ghost from_gives = { λ fault refusal. refusal ≡ Text fault };
 
-    fn from(fault: Fault) -> Refusal {
-        Refusal::Text(fault)
+    fn from(why: Fault) -> Refusal {
+        Refusal::Text(why)
     }
 }
 

@@ -44,11 +44,11 @@ impl<'a> Cursor<'a> {
         ensures is { eaten result self.new ≡ ate (tok wanted.entry) self.old.line.now self.old.pos }
         ensures on { Still self.old self.new result }
     {
-        let lexeme = tokens::next(self.line, self.pos)?;
-        if lexeme.token != wanted {
+        let ahead = tokens::next(self.line, self.pos)?;
+        if ahead.token != wanted {
             return Ok(false);
         }
-        self.pos = lexeme.end;
+        self.pos = ahead.end;
         Ok(true)
     }
 
