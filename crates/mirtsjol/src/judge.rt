@@ -1,6 +1,6 @@
 //! The answer to a line.
 ghost use Rattle.std.specs.Prelude.{◌≡◌};
-ghost use Rattle.mirtsjol.specs.Keeping.{Keeps};
+ghost use Rattle.mirtsjol.specs.Keeping.{KeepsSymbols};
 ghost use Rattle.mirtsjol.specs.Verdicts.{line_judged, after_answer, put_back};
 
 use crate::refusal::Refusal;
@@ -17,7 +17,7 @@ fn read(
     words: &mut [u32],
 ) -> Result<usize, Refusal>
     ensures is { after_answer result words.new (put_back result symbols.old symbols.new) rows.new ≡ line_judged line.now words.old symbols.old rows.old }
-    ensures keeps { Keeps symbols.old rows.old (put_back result symbols.old symbols.new) rows.new }
+    ensures keeps { KeepsSymbols symbols.old rows.old (put_back result symbols.old symbols.new) rows.new }
 {
     let rule = read_rule(line, rows, symbols, words)?;
     if rule.words > words.len() {
@@ -36,7 +36,7 @@ pub fn judge(
     words: &mut [u32],
 ) -> Result<usize, Refusal>
     ensures is { after_answer result words.new symbols.new rows.new ≡ line_judged line.now words.old symbols.old rows.old }
-    ensures keeps { Keeps symbols.old rows.old symbols.new rows.new }
+    ensures keeps { KeepsSymbols symbols.old rows.old symbols.new rows.new }
 {
     let before = *symbols;
     let answer = read(line, rows, symbols, words);
