@@ -7,14 +7,10 @@ use crate::limits::{ARGUMENTS, NAME_BYTES};
 use crate::row::{Kind, SymbolRow};
 
 /// A symbol record: a name of 1 to 16 lawful bytes, a kind, and an arity of at most 4.
-// Bytes with a length, as in the row that it is made of: no record is allocated.
 #[derive(Clone, Copy, PartialEq, Eq)]
 pub struct Symbol {
-    name: [u8; NAME_BYTES],
-    length: u8,
-    kind: Kind,
-    arity: u8,
-    ghost ok: { Recordable name length arity },
+    row: SymbolRow,
+    ghost ok: { Recordable row.name row.length row.arity },
 }
 
 /// Whether a name may have this byte.
@@ -25,8 +21,9 @@ pub fn is_name_byte(b: u8) -> bool
 }
 
 /// The record of a row: there is one exactly when the row's name and arity are lawful, and it has the row's parts.
+// An `Option` and no `TryFrom`: a row that makes no record has nothing more to say, so there is no error to name.
 pub fn record(row: &SymbolRow) -> Option<Symbol>
-    ensures { MatchOption result (Recordable row.now.name row.now.length row.now.arity → ⊥) (λ s. Recordable row.now.name row.now.length row.now.arity × (s.name ≡ row.now.name) × (s.length ≡ row.now.length) × (s.kind ≡ row.now.kind) × (s.arity ≡ row.now.arity)) }
+    ensures { MatchOption result (Recordable row.now.name row.now.length row.now.arity → ⊥) (λ s. Recordable row.now.name row.now.length row.now.arity × (s.row ≡ row.now)) }
 {
     if row.length < 1 || row.length as usize > NAME_BYTES || row.arity as usize > ARGUMENTS {
         return None;
@@ -37,33 +34,28 @@ pub fn record(row: &SymbolRow) -> Option<Symbol>
     {
         return None;
     }
-    Some(Symbol {
-        name: row.name,
-        length: row.length,
-        kind: row.kind,
-        arity: row.arity,
-    })
+    Some(Symbol { row: *row })
 }
 
 impl Symbol {
     /// The bytes of the name.
     pub fn name(&self) -> &[u8]
-        ensures { result.now ≡ take self.now.length self.now.name }
+        ensures { result.now ≡ take self.now.row.length self.now.row.name }
     {
-        &self.name[..self.length as usize]
+        &self.row.name[..self.row.length as usize]
     }
 
     /// What the symbol heads.
     pub fn kind(&self) -> Kind
-        ensures { result ≡ self.now.kind }
+        ensures { result ≡ self.now.row.kind }
     {
-        self.kind
+        self.row.kind
     }
 
     /// How many arguments the symbol takes.
     pub fn arity(&self) -> usize
-        ensures { (result ≡ self.now.arity) × (result ≤ limits.arguments) }
+        ensures { (result ≡ self.now.row.arity) × (result ≤ limits.arguments) }
     {
-        self.arity as usize
+        self.row.arity as usize
     }
 }
