@@ -1,7 +1,6 @@
 -- One literal of a clause's words.
 use Rattle.std.proofs.Common.{◌≡◌, ℕ, ◌+◌, ◌-◌, ◌<◌, ◌≤◌, Bool, true, false, cond, ltb, List, [], ◌∷◌, ◌++◌, length, get_or, drop, Decides, sym, refl, ap, ◌∙◌, subst, inl, inr, append-nil, arith}
 use Rattle.std.proofs.lemmas.Bool.{lt-ltb, le-ltb, cond-true, cond-false, cases_lt, false≢true}
-use Rattle.std.proofs.lemmas.List.{drop_more}
 use Rattle.logic.specs.declared.row.SymbolRow.{SymbolRow}
 use Rattle.logic.specs.declared.row.Kind.TheVariants.{Predicate}
 use Rattle.logic.specs.Symbols.{Symbol}
@@ -117,32 +116,27 @@ module _ (rows : List SymbolRow) where
 
   -- ── At a place ──
 
-  module _ (most : ℕ) (ws : List ℕ) (i w : ℕ) (inside : i < length ws) (is : w ≡ get_or ws i 0) where
-    here : drop i ws ≡ w ∷ drop (i + 1) ws
-    here = drop_more ws i 0 inside ∙ ap (λ x. x ∷ drop (i + 1) ws) (sym is)
+  module _ (most w : ℕ) (ws others : List ℕ) (is : ws ≡ w ∷ others) where
+    from_here : Spells rows most ws → AfterHead most w others
+    from_here s = first_literal most w others (subst (Spells rows most) is s)
 
-    from_here : Spells rows most (drop i ws) → AfterHead most w (drop (i + 1) ws)
-    from_here s = first_literal most w (drop (i + 1) ws) (subst (Spells rows most) here s)
-
-    not_so : (Spells rows most (drop i ws) → ⊥) → Decides false (Spells rows most (drop i ws))
+    not_so : (Spells rows most ws → ⊥) → Decides false (Spells rows most ws)
     not_so n = (λ e. absurd (false≢true e), λ s. absurd (n s))
 
-    pub spells_headless : ((a : ℕ) → Takes rows w a → ⊥) → Decides false (Spells rows most (drop i ws))
+    pub spells_headless : ((a : ℕ) → Takes rows w a → ⊥) → Decides false (Spells rows most ws)
     spells_headless n = not_so (λ s. n (from_here s).arity (from_here s).takes)
 
-    pub spells_broken : (a : ℕ) → Takes rows w a → ((rest : List ℕ) → Reads rows 32 a (drop (i + 1) ws) rest → ⊥)
-        → Decides false (Spells rows most (drop i ws))
+    pub spells_broken : (a : ℕ) → Takes rows w a → ((rest : List ℕ) → Reads rows 32 a others rest → ⊥) → Decides false (Spells rows most ws)
     spells_broken a t n = not_so (λ s. let h = from_here s in
-        n h.mid (subst (λ (k : ℕ). Reads rows 32 k (drop (i + 1) ws) h.mid) (takes_one w h.arity a h.takes t) h.inner))
+        n h.mid (subst (λ (k : ℕ). Reads rows 32 k others h.mid) (takes_one w h.arity a h.takes t) h.inner))
 
-    pub spells_more : (a j : ℕ) (r : Bool) → 0 < most → Takes rows w a → Reads rows 32 a (drop (i + 1) ws) (drop j ws)
-        → Decides r (Spells rows (most - 1) (drop j ws)) → Decides r (Spells rows most (drop i ws))
-    spells_more a j r m t g d = (
-      λ e. subst (Spells rows most) (sym here)
-          (with_literal most w (drop (i + 1) ws) (record { some = m; arity = a; takes = t; mid = drop j ws; inner = g; others = d.0 e })),
+    pub spells_more : (a : ℕ) (mid : List ℕ) (r : Bool) → 0 < most → Takes rows w a → Reads rows 32 a others mid
+        → Decides r (Spells rows (most - 1) mid) → Decides r (Spells rows most ws)
+    spells_more a mid r m t g d = (
+      λ e. subst (Spells rows most) (sym is) (with_literal most w others (record { some = m; arity = a; takes = t; mid = mid; inner = g; others = d.0 e })),
       λ s. let h = from_here s in
           d.1 (subst (Spells rows (most - 1))
-          (unique rows 32 a (drop (i + 1) ws) h.mid (drop j ws)
-          (subst (λ (k : ℕ). Reads rows 32 k (drop (i + 1) ws) h.mid) (takes_one w h.arity a h.takes t) h.inner) g)
+          (unique rows 32 a others h.mid mid
+          (subst (λ (k : ℕ). Reads rows 32 k others h.mid) (takes_one w h.arity a h.takes t) h.inner) g)
           h.others),
     )

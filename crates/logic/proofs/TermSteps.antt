@@ -1,6 +1,5 @@
 -- One step of reading terms.
-use Rattle.std.proofs.Common.{◌≡◌, ℕ, ◌+◌, ◌-◌, ◌<◌, ◌≤◌, ◌⊎◌, List, [], ◌∷◌, ◌++◌, length, get_or, drop, Some, None, Option, sym, refl, ap, ◌∙◌, subst, inl, inr, append_assoc, arith, length-append, drop_of_length-le}
-use Rattle.std.proofs.lemmas.List.{drop_more}
+use Rattle.std.proofs.Common.{◌≡◌, ℕ, ◌+◌, ◌-◌, ◌<◌, ◌≤◌, ◌⊎◌, List, [], ◌∷◌, ◌++◌, length, get_or, drop, Bor, Some, None, Option, sym, refl, ap, ◌∙◌, subst, inl, inr, append_assoc, arith, length-append}
 use Rattle.logic.specs.declared.row.SymbolRow.{SymbolRow}
 use Rattle.logic.specs.declared.row.Kind.{Kind}
 use Rattle.logic.specs.declared.row.Kind.TheVariants.{Function}
@@ -8,7 +7,7 @@ use Rattle.logic.specs.Symbols.{Symbol}
 use Rattle.logic.specs.Syntax.{Term, Terms, var, app, []ₜ, ◌∷ₜ◌}
 use Rattle.logic.specs.Words.{term_words, terms_words}
 use Rattle.logic.specs.Lawful.{count, deep, deeps, LawfulTerms}
-use Rattle.logic.specs.Reads.{Reads, Ends}
+use Rattle.logic.specs.Reads.{Reads, Leaves}
 use Rattle.logic.proofs.Spelt.{terms_prefix_unique}
 
 module _ (rows : List SymbolRow) where
@@ -114,60 +113,52 @@ module _ (rows : List SymbolRow) where
   pub one_arity : (s : ℕ) (k : Kind) (a b : ℕ) → Symbol rows s k a → Symbol rows s k b → a ≡ b
   one_arity s k a b p q = sym p.3 ∙ q.3
 
-  -- ── At a place ──
+  -- ── Behind the first word ──
 
-  module _ (d n : ℕ) (ws : List ℕ) (i w : ℕ) (inside : i < length ws) (is : w ≡ get_or ws i 0) (some_due : 0 < n) where
-    here : drop i ws ≡ w ∷ drop (i + 1) ws
-    here = drop_more ws i 0 inside ∙ ap (λ x. x ∷ drop (i + 1) ws) (sym is)
+  module _ (d n w : ℕ) (ws others : List ℕ) (is : ws ≡ w ∷ others) (some_due : 0 < n) where
+    from_here : (rest : List ℕ) → Reads rows d n ws rest → ((w < 64) × Reads rows d (n - 1) others rest) ⊎ AfterSymbol d n w others rest
+    from_here rest r = first_word d n w others rest some_due (subst (λ (xs : List ℕ). Reads rows d n xs rest) is r)
 
-    from_here : (rest : List ℕ) → Reads rows d n (drop i ws) rest
-        → ((w < 64) × Reads rows d (n - 1) (drop (i + 1) ws) rest) ⊎ AfterSymbol d n w (drop (i + 1) ws) rest
-    from_here rest r = first_word d n w (drop (i + 1) ws) rest some_due (subst (λ (xs : List ℕ). Reads rows d n xs rest) here r)
+    pub leaves_var : (r : Option (Bor (List ℕ))) → 0 < d → w < 64 → Leaves rows d (n - 1) others r → Leaves rows d n ws r
+    leaves_var None k l h = λ rest r. elim (from_here rest r) [ inl q ↦ h rest q.1 | inr q ↦ omega (arith, q.low) ]
+    leaves_var (Some x) k l h = (omega (arith, h.0, ap length is), rw is (with_var d n w others x.now some_due k l h.1))
 
-    pub ends_var : (r : Option ℕ) → 0 < d → w < 64 → Ends rows d (n - 1) ws (i + 1) r → Ends rows d n ws i r
-    ends_var None k l h = λ rest r. elim (from_here rest r) [ inl q ↦ h rest q.1 | inr q ↦ omega (arith, q.low) ]
-    ends_var (Some j) k l h = (
-      omega (arith, h.0),
-      h.1,
-      rw here (with_var d n w (drop (i + 1) ws) (drop j ws) some_due k l h.2),
-    )
+    pub leaves_between : 64 ≤ w → w < 256 → (rest : List ℕ) → Reads rows d n ws rest → ⊥
+    leaves_between l m rest r = elim (from_here rest r) [ inl q ↦ omega (arith, q.0) | inr q ↦ omega (arith, q.low) ]
 
-    pub ends_between : 64 ≤ w → w < 256 → (rest : List ℕ) → Reads rows d n (drop i ws) rest → ⊥
-    ends_between l m rest r = elim (from_here rest r) [ inl q ↦ omega (arith, q.0) | inr q ↦ omega (arith, q.low) ]
+    pub leaves_unknown : 256 ≤ w → ((a : ℕ) → Symbol rows (w - 256) Function a → ⊥) → (rest : List ℕ) → Reads rows d n ws rest → ⊥
+    leaves_unknown l f rest r = elim (from_here rest r) [ inl q ↦ omega (arith, q.0) | inr q ↦ f q.arity q.symbol ]
 
-    pub ends_unknown : 256 ≤ w → ((a : ℕ) → Symbol rows (w - 256) Function a → ⊥) → (rest : List ℕ) → Reads rows d n (drop i ws) rest → ⊥
-    ends_unknown l f rest r = elim (from_here rest r) [ inl q ↦ omega (arith, q.0) | inr q ↦ f q.arity q.symbol ]
-
-    pub ends_inner : (a : ℕ) → 256 ≤ w → Symbol rows (w - 256) Function a
-        → ((rest : List ℕ) → Reads rows (d - 1) a (drop (i + 1) ws) rest → ⊥)
-        → (rest : List ℕ) → Reads rows d n (drop i ws) rest → ⊥
-    ends_inner a l s h rest r = elim (from_here rest r) [
+    pub leaves_inner : (a : ℕ) → 256 ≤ w → Symbol rows (w - 256) Function a
+        → ((rest : List ℕ) → Reads rows (d - 1) a others rest → ⊥)
+        → (rest : List ℕ) → Reads rows d n ws rest → ⊥
+    leaves_inner a l s h rest r = elim (from_here rest r) [
       | inl q ↦ omega (arith, q.0)
-      | inr q ↦ h q.mid (subst (λ (k : ℕ). Reads rows (d - 1) k (drop (i + 1) ws) q.mid) (one_arity _ _ _ _ q.symbol s) q.inner)
+      | inr q ↦ h q.mid (subst (λ (k : ℕ). Reads rows (d - 1) k others q.mid) (one_arity _ _ _ _ q.symbol s) q.inner)
     ]
 
-    pub ends_symbol : (a k : ℕ) (r : Option ℕ) → 0 < d → 256 ≤ w → Symbol rows (w - 256) Function a
-        → i + 1 ≤ k → Reads rows (d - 1) a (drop (i + 1) ws) (drop k ws)
-        → Ends rows d (n - 1) ws k r → Ends rows d n ws i r
-    ends_symbol a k None p l s q g h = λ rest r. elim (from_here rest r) [
+    pub leaves_symbol : (a : ℕ) (mid : List ℕ) (r : Option (Bor (List ℕ))) → 0 < d → 256 ≤ w → Symbol rows (w - 256) Function a
+        → length mid ≤ length others → Reads rows (d - 1) a others mid
+        → Leaves rows d (n - 1) mid r → Leaves rows d n ws r
+    leaves_symbol a mid None p l s q g h = λ rest r. elim (from_here rest r) [
       | inl x ↦ omega (arith, x.0)
       | inr x ↦ h rest (subst (λ (xs : List ℕ). Reads rows d (n - 1) xs rest)
-          (unique (d - 1) a (drop (i + 1) ws) x.mid (drop k ws)
-          (subst (λ (m : ℕ). Reads rows (d - 1) m (drop (i + 1) ws) x.mid) (one_arity _ _ _ _ x.symbol s) x.inner) g) x.others)
+          (unique (d - 1) a others x.mid mid
+          (subst (λ (m : ℕ). Reads rows (d - 1) m others x.mid) (one_arity _ _ _ _ x.symbol s) x.inner) g) x.others)
     ]
-    ends_symbol a k (Some j) p l s q g h = (
-      omega (arith, h.0),
-      h.1,
-      rw here (with_symbol d n w (drop (i + 1) ws) (drop j ws) some_due p
-          (record { low = l; arity = a; symbol = s; mid = drop k ws; inner = g; others = h.2 })),
+    leaves_symbol a mid (Some x) p l s q g h = (
+      omega (arith, h.0, ap length is),
+      rw is (with_symbol d n w others x.now some_due p
+          (record { low = l; arity = a; symbol = s; mid = mid; inner = g; others = h.1 })),
     )
 
-  -- where no words begin with such terms, there is no place behind them
-  pub no_end : (d n : ℕ) (ws : List ℕ) (i : ℕ) (r : Option ℕ) → r ≡ None → ((rest : List ℕ) → Reads rows d n (drop i ws) rest → ⊥) → Ends rows d n ws i r
-  no_end d n ws i r e h = subst (Ends rows d n ws i) (sym e) h
+  -- where no words begin with such terms, nothing is left behind them
+  pub leaves_none : (d n : ℕ) (ws : List ℕ) (r : Option (Bor (List ℕ))) → r ≡ None → ((rest : List ℕ) → Reads rows d n ws rest → ⊥) → Leaves rows d n ws r
+  leaves_none d n ws r e h = subst (Leaves rows d n ws) (sym e) h
 
-  pub at_end : (d n : ℕ) (ws : List ℕ) (i : ℕ) → length ws ≤ i → 0 < n → (rest : List ℕ) → Reads rows d n (drop i ws) rest → ⊥
-  at_end d n ws i h k rest r = no_words d n rest k (subst (λ (xs : List ℕ). Reads rows d n xs rest) (drop_of_length-le ws h) r)
+  pub at_end : (d n : ℕ) (ws : List ℕ) → length ws ≡ 0 → 0 < n → (rest : List ℕ) → Reads rows d n ws rest → ⊥
+  at_end d n [] h k rest r = no_words d n rest k r
+  at_end d n (w ∷ ws) h k rest r = omega arith
 
   pub too_deep : (d n : ℕ) (ws rest : List ℕ) → d ≡ 0 → 0 < n → Reads rows d n ws rest → ⊥
   too_deep d n ws rest e k r = no_depth n ws rest k (subst (λ (x : ℕ). Reads rows x n ws rest) e r)

@@ -1,5 +1,6 @@
 -- Words that begin with some lawful terms, and what a head of a literal takes.
-use Rattle.std.specs.Prelude.{◌≡◌, ℕ, ◌-◌, ◌≤◌, ◌⊎◌, List, ◌++◌, length, drop, Option, MatchOption}
+use Rattle.std.specs.Prelude.{◌≡◌, ℕ, ◌-◌, ◌≤◌, ◌⊎◌, List, ◌++◌, length, Option, MatchOption}
+use Rattle.std.specs.Borrow.{Bor}
 use Rattle.logic.specs.declared.row.SymbolRow.{SymbolRow}
 use Rattle.logic.specs.declared.row.Kind.{Kind}
 use Rattle.logic.specs.declared.row.Kind.TheVariants.{Predicate}
@@ -21,11 +22,11 @@ pub record Reads (rows : List SymbolRow) (d n : ℕ) (ws rest : List ℕ) : Type
   pub shallow : deeps terms ≤ d
   pub spelt : ws ≡ terms_words terms ++ rest
 
--- the place behind n terms that begin at place i, if there are such
-abbrev pub Ends : List SymbolRow → ℕ → ℕ → List ℕ → ℕ → Option ℕ → Type 0
-Ends rows d n ws i r =
-    MatchOption r ((rest : List ℕ) → Reads rows d n (drop i ws) rest → ⊥)
-    (λ j. (i ≤ j) × (j ≤ length ws) × Reads rows d n (drop i ws) (drop j ws))
+-- what is left behind n terms that the words begin with, if they do
+abbrev pub Leaves : List SymbolRow → ℕ → ℕ → List ℕ → Option (Bor (List ℕ)) → Type 0
+Leaves rows d n ws r =
+    MatchOption r ((rest : List ℕ) → Reads rows d n ws rest → ⊥)
+    (λ rest. (length rest.now ≤ length ws) × Reads rows d n ws rest.now)
 
 -- the word w heads a literal with a arguments
 abbrev pub Takes : List SymbolRow → ℕ → ℕ → Type 0

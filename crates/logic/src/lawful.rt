@@ -1,9 +1,9 @@
 //! Whether words are those of some lawful clause.
-ghost use Rattle.std.specs.Prelude.{◌≡◌, ◌≤◌, length, drop, Decides};
+ghost use Rattle.std.specs.Prelude.{◌≡◌, Decides};
 ghost use Rattle.logic.specs.Syntax.{Clause};
 ghost use Rattle.logic.specs.Words.{clause_words};
 ghost use Rattle.logic.specs.Lawful.{Lawful};
-ghost use Rattle.logic.specs.Reads.{Arity, Ends, Taken, Spells};
+ghost use Rattle.logic.specs.Reads.{Arity, Leaves, Taken, Spells};
 
 use crate::head::{SIDES, without_sign};
 use crate::limits::{ARGUMENTS, DEPTH, EQUALITY_WORD, LITERALS, SYMBOL_WORD, SYMBOLS, VARIABLES};
@@ -21,27 +21,26 @@ fn arity_of(rows: &[SymbolRow], s: usize, kind: Kind) -> Option<usize>
     (row.kind == kind && arity <= ARGUMENTS).then_some(arity)
 }
 
-/// The place behind n lawful terms of depth at most d that begin at i, if there are such.
-fn lawful_end(words: &[u32], rows: &[SymbolRow], i: usize, n: usize, d: usize) -> Option<usize>
-    requires { i ≤ length words.now }
-    ensures { Ends rows.now d n words.now i result }
+/// What stands behind n lawful terms of depth at most d, if the words begin with such terms.
+fn lawful_rest<'a>(words: &'a [u32], rows: &[SymbolRow], n: usize, d: usize) -> Option<&'a [u32]>
+    ensures { Leaves rows.now d n words.now result }
 {
     if n == 0 {
-        return Some(i);
+        return Some(words);
     }
-    let w = *words.get(i)?;
+    let (word, rest) = words.split_first()?;
     if d == 0 {
         return None;
     }
-    if w < VARIABLES {
-        return lawful_end(words, rows, i + 1, n - 1, d);
+    if *word < VARIABLES {
+        return lawful_rest(rest, rows, n - 1, d);
     }
-    if w < SYMBOL_WORD {
+    if *word < SYMBOL_WORD {
         return None;
     }
-    let arity = arity_of(rows, (w - SYMBOL_WORD) as usize, Kind::Function)?;
-    let j = lawful_end(words, rows, i + 1, arity, d - 1)?;
-    lawful_end(words, rows, j, n - 1, d)
+    let arity = arity_of(rows, (*word - SYMBOL_WORD) as usize, Kind::Function)?;
+    let others = lawful_rest(rest, rows, arity, d - 1)?;
+    lawful_rest(others, rows, n - 1, d)
 }
 
 /// How many arguments the word takes as the head of a literal, if it is one.
@@ -58,30 +57,29 @@ fn arguments(rows: &[SymbolRow], w: u32) -> Option<usize>
     arity_of(rows, (head - SYMBOL_WORD) as usize, Kind::Predicate)
 }
 
-/// Whether the words from i on are those of a lawful clause of at most `most` literals.
-fn clause_from(words: &[u32], rows: &[SymbolRow], i: usize, most: usize) -> bool
-    requires { i ≤ length words.now }
-    ensures { Decides result (Spells rows.now most (drop i words.now)) }
+/// Whether the words are those of a lawful clause of at most `most` literals.
+fn clause_in(words: &[u32], rows: &[SymbolRow], most: usize) -> bool
+    ensures { Decides result (Spells rows.now most words.now) }
 {
     // `let else` and no `?` here and below: the answer is a bool.
-    let Some(&word) = words.get(i) else {
+    let Some((word, rest)) = words.split_first() else {
         return true;
     };
     if most == 0 {
         return false;
     }
-    let Some(n) = arguments(rows, word) else {
+    let Some(n) = arguments(rows, *word) else {
         return false;
     };
-    let Some(j) = lawful_end(words, rows, i + 1, n, DEPTH) else {
+    let Some(others) = lawful_rest(rest, rows, n, DEPTH) else {
         return false;
     };
-    clause_from(words, rows, j, most - 1)
+    clause_in(others, rows, most - 1)
 }
 
 /// Whether the words are those of some lawful clause.
 pub fn is_clause(words: &[u32], rows: &[SymbolRow]) -> bool
     ensures { Decides result ((c : Clause) × (words.now ≡ clause_words c) × Lawful rows.now c) }
 {
-    clause_from(words, rows, 0, LITERALS)
+    clause_in(words, rows, LITERALS)
 }
