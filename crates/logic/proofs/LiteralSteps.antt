@@ -114,7 +114,7 @@ module _ (rows : List SymbolRow) where
           (subst (Symbol rows (bare w - 256) Predicate) (sym r.counted) p.1, r.lawful, r.shallow)
           (head_word w (cond g.0 1024 0 + (256 + (bare w - 256))) ws (terms_words r.terms ++ a.mid) (g.1 ∙ ap (λ x. cond g.0 1024 0 + x) y) r.spelt) a.others
 
-  -- ── At a place ──
+  -- ── Behind the first word ──
 
   module _ (most w : ℕ) (ws others : List ℕ) (is : ws ≡ w ∷ others) where
     from_here : Spells rows most ws → AfterHead most w others

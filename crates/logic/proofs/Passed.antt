@@ -1,4 +1,4 @@
--- Passing over words by counting: steps, bounds and sums.
+-- Passing over words by counting: steps and sums.
 use Rattle.std.proofs.Common.{◌≡◌, ℕ, zero, suc, ◌+◌, ◌-◌, ◌<◌, ◌≤◌, min, List, [], ◌∷◌, length, get_or, drop, sym, refl, ap, ◌∙◌, inl, inr, not-suc-le-zero, add_assoc, suc-add, zero-add, arith, length-drop}
 use Rattle.std.specs.List.{between}
 use Rattle.std.proofs.lemmas.List.{drop_all, take_all, at_drop_more}
@@ -18,12 +18,6 @@ module _ (arity : ℕ → ℕ) where
   pub passed_suc : (n w : ℕ) (ws : List ℕ) → passed arity (suc n) (w ∷ ws) ≡ suc (passed arity (word_arity arity w + n) ws)
   unfolding passed
   passed_suc n w ws = refl
-
-  pub passed_within : (n : ℕ) (ws : List ℕ) → passed arity n ws ≤ length ws
-  unfolding passed
-  passed_within n [] = omega arith
-  passed_within zero (w ∷ ws) = omega arith
-  passed_within (suc n) (w ∷ ws) = omega (arith, passed_within (word_arity arity w + n) ws)
 
   -- as many terms as there are words, or more, take all of them
   pub passed_all : (n : ℕ) (ws : List ℕ) → length ws ≤ n → passed arity n ws ≡ length ws

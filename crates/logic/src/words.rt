@@ -1,4 +1,5 @@
 //! Walking over words by counting how many terms are still due.
+// Words and rows are two parameters throughout: the rows of a step are the same for all its words, and a struct of both would be made anew for each.
 ghost use Rattle.std.specs.Prelude.{◌≡◌, ℕ, ◌+◌, ◌≤◌, List, ◌++◌, length, drop, Decides};
 ghost use Rattle.std.specs.Str.{bytes_eq};
 ghost use Rattle.logic.specs.declared.row.SymbolRow.{SymbolRow as Row};
@@ -17,7 +18,6 @@ pub struct Span {
     pub end: usize,
 }
 
-// Words and rows stay two parameters: the rows are the same for all words of a step, so a struct of both would be made anew at each call.
 /// How many words n terms or literals take from the front on, or all words where they end before.
 pub(crate) fn words_of(words: &[u32], rows: &[SymbolRow], n: usize) -> usize
     ensures is { result ≡ passed (arities rows.now) n words.now }
