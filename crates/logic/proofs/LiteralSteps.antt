@@ -116,7 +116,7 @@ module _ (rows : List SymbolRow) where
 
   -- ── Behind the first word ──
 
-  module _ (most w : ℕ) (ws others : List ℕ) (is : ws ≡ w ∷ others) where
+  module _ {most w : ℕ} {ws others : List ℕ} (is : ws ≡ w ∷ others) where
     from_here : Spells rows most ws → AfterHead most w others
     from_here s = first_literal most w others (subst (Spells rows most) is s)
 

@@ -115,7 +115,7 @@ module _ (rows : List SymbolRow) where
 
   -- ── Behind the first word ──
 
-  module _ (d n w : ℕ) (ws others : List ℕ) (is : ws ≡ w ∷ others) (some_due : 0 < n) where
+  module _ {d n w : ℕ} {ws others : List ℕ} (is : ws ≡ w ∷ others) (some_due : 0 < n) where
     from_here : (rest : List ℕ) → Reads rows d n ws rest → ((w < 64) × Reads rows d (n - 1) others rest) ⊎ AfterSymbol d n w others rest
     from_here rest r = first_word d n w others rest some_due (subst (λ (xs : List ℕ). Reads rows d n xs rest) is r)
 
