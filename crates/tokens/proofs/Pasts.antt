@@ -1,20 +1,11 @@
--- One step of `past`.
-use Rattle.std.proofs.Common.{◌≡◌, ℕ, ◌+◌, ◌<◌, ◌≤◌, true, false, List, length, get_or, drop, arith, length-drop, length-take}
+-- The place past a run of a class.
+use Rattle.std.proofs.Common.{◌≡◌, ℕ, ◌<◌, ◌≤◌, true, List, length, get_or, drop, arith, length-drop, length-take}
 use Rattle.std.specs.List.{between}
-use Rattle.std.proofs.lemmas.List.Sums.{prefix_len-drop_yes, prefix_len-drop_no, prefix_len-drop_all, prefix_len-le-length}
+use Rattle.std.proofs.lemmas.List.Sums.{prefix_len-drop_yes, prefix_len-le-length}
 use Rattle.tokens.specs.declared.byte.Class.{Class}
 use Rattle.tokens.specs.Bytes.{within, past}
 
 module _ (s : Class) (bs : List ℕ) (p : ℕ) where
-  pub past_yes : p < length bs → within s (get_or bs p 0) ≡ true → past s bs (p + 1) ≡ past s bs p
-  past_yes h e = omega (arith, prefix_len-drop_yes (within s) bs p 0 h e)
-
-  pub past_no : p < length bs → within s (get_or bs p 0) ≡ false → past s bs p ≡ p
-  past_no h e = omega (arith, prefix_len-drop_no (within s) bs p 0 h e)
-
-  pub past_all : length bs ≤ p → past s bs p ≡ p
-  past_all h = omega (arith, prefix_len-drop_all (within s) bs p h)
-
   pub past_within : p ≤ length bs → past s bs p ≤ length bs
   past_within h = omega (arith, prefix_len-le-length (within s) (drop p bs), length-drop p bs)
 

@@ -1,10 +1,6 @@
-use Rattle.std.proofs.Common.{◌≡◌, ◌≤◌, true, false, length, get_or, Some, ap, ◌∙◌, arith}
-use Rattle.std.proofs.lemmas.List.Sums.{prefix_len-drop_yes, prefix_len-drop_no, prefix_len-drop_all}
-use Rattle.std.proofs.lemmas.List.{take_all}
-use Rattle.std.proofs.lemmas.Bool.Decides.{nat_tests}
+use Rattle.std.proofs.Common.{◌≡◌, true, get_or, arith}
 use Rattle.logic.specs.Names.{digit}
-use Rattle.tokens.specs.Forms.{value, digits}
-use Rattle.tokens.proofs.Digits.{digits_no, digits_yes, ten_more, ten_small, is_digit, value_more}
+use Rattle.tokens.proofs.Digits.{ten_small, is_digit}
 use Rattle.tokens.proofs.form.digits.Goals as goal
 
 pub overflow_mul-n : goal.overflow_mul-n

@@ -1,5 +1,5 @@
 use Rattle.std.proofs.Common.{◌<◌, ◌≤◌, length, sym, arith, rules}
-use Rattle.tokens.proofs.Pasts.{past_on, past_within, part_some}
+use Rattle.tokens.proofs.Pasts.{past_on, past_within}
 use Rattle.tokens.specs.declared.byte.Class.TheVariants.{Run}
 use Rattle.tokens.specs.Tokens.{lex}
 use Rattle.tokens.proofs.token.next.Goals as goal
