@@ -40,10 +40,6 @@ pub sign_other : (b : Bool) → T (not (beq (not b) b))
 sign_other true = tt
 sign_other false = tt
 
-pub is_false : (b : Bool) → T (not b) → b ≡ false
-is_false true h = absurd h
-is_false false h = refl
-
 -- two literals over one atom x with opposite signs s and r
 pub opposite : (s r x : Bool) → T (not (beq s r)) → cond s (not x) x ≡ not (cond r (not x) x)
 opposite true true x h = absurd h
