@@ -23,7 +23,7 @@ use Rattle.reading.specs.Clauses.{closing}
 use Rattle.reading.specs.Bindings.{Bound, Bounds, blank, variable_at, binding_mark, binding_turn, binding, binding_list}
 use Rattle.reading.proofs.Keeping.{Safe, Any, Holds, Free, slot_free}
 use Rattle.reading.proofs.Kept.{not_full, head_free}
-use Rattle.reading.proofs.Pushed.{between_same}
+use Rattle.reading.proofs.Pushed.{bound, between_same}
 
 -- both answers, or one refusal
 abbrev pub Both : {A : Type 0} → (A → A → Type 0) → Result A Halt → Result A Halt → Type 0
@@ -160,9 +160,6 @@ AlikeBound p q = (p.0 ≡ q.0) × ((o : List ℕ) × (q.1 ≡ swap p.1 o) × Rea
 
 abbrev Same : Bounds → Bounds → Type 0
 Same x y = x ≡ y
-
-abbrev bound : ℕ → List ℕ → Bound
-bound i ws = record { variable = i; words = ws }
 
 module _ (bs : List ℕ) where
   binding_both : (a : State) (o : List ℕ) → Ready a o → Both AlikeBound (binding bs a) (binding bs (swap a o))

@@ -1,7 +1,7 @@
 -- The count of symbols never falls below what it was and stays within its bounds; the rows below it stay as they were, if each had an arity of at most four.
 use Rattle.std.proofs.Common.{◌≡◌, ℕ, ◌+◌, ◌<◌, ◌≤◌, Bool, true, false, cond, ◌&&◌, eqb, ltb, List, length, take, set, Some, None, Ok, Err, Option, Result, sym, refl, ap, ◌∙◌, subst, inl, inr, arith, length-set}
 use Rattle.std.proofs.lemmas.List.{get_or-take, take-set-le}
-use Rattle.std.proofs.lemmas.Bool.{cases_lt, ltb-true}
+use Rattle.std.proofs.lemmas.Bool.{cases_lt, ltb-true, and_parts}
 use Rattle.logic.specs.declared.row.Kind.{Kind}
 use Rattle.logic.specs.declared.row.SymbolRow.{SymbolRow}
 use Rattle.logic.specs.Limits as language
@@ -19,12 +19,6 @@ use Rattle.reading.specs.Clauses.{clause, clause_from}
 use Rattle.reading.specs.Fixed.{Fixed}
 use Rattle.reading.proofs.Keeping.{Safe, bind_safe, Any}
 use Rattle.reading.proofs.Whole.{cond_safe, clause_safe}
-
-both : (a b : Bool) → (a && b) ≡ true → (a ≡ true) × (b ≡ true)
-both true true e = (refl, refl)
-both true false e = let z : ◌≡◌ {A = ℕ} 0 1 = cc in absurd (omega arith)
-both false true e = let z : ◌≡◌ {A = ℕ} 0 1 = cc in absurd (omega arith)
-both false false e = let z : ◌≡◌ {A = ℕ} 0 1 = cc in absurd (omega arith)
 
 module _ (n : ℕ) (old : List SymbolRow) where
   -- m symbols in these rows, where n were counted in the old ones
@@ -60,7 +54,7 @@ module _ (n : ℕ) (old : List SymbolRow) where
     where
       by : (q : Bool) → (ltb m language.symbols && ltb m (length rows)) ≡ q → Safe {A = Met} HaltCovers MetCovers (cond q (Ok (record { symbol = m; symbols = m + 1; rows = set rows m (new_row name k) })) (Err (halt (ManySymbols at) m rows)))
       by true e =
-          let room = both (ltb m language.symbols) (ltb m (length rows)) e in
+          let room = and_parts (ltb m language.symbols) (ltb m (length rows)) e in
           entered m rows (new_row name k) (ltb-true m language.symbols room.0) (ltb-true m (length rows) room.1) g
       by false e = g
   known_covers p k name at m rows (Some s) g =

@@ -1,4 +1,3 @@
-pub mod Padding
 pub mod Turns
 pub mod Lists
 pub mod Keeping

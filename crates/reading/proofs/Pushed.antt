@@ -1,5 +1,5 @@
 -- One binding more.
-use Rattle.std.proofs.Common.{◌≡◌, ℕ, zero, suc, ◌+◌, ◌-◌, ◌<◌, ◌≤◌, eqb, ◌≢◌, List, Result, [], ◌∷◌, ◌++◌, map, length, get_or, take, drop, set, sym, refl, ap, ◌∙◌, subst, ap₂, ⊎_elim, arith}
+use Rattle.std.proofs.Common.{◌≡◌, ℕ, zero, suc, ◌+◌, ◌-◌, ◌<◌, ◌≤◌, eqb, ◌≢◌, List, Result, [], ◌∷◌, ◌++◌, map, length, get_or, take, drop, sym, refl, ap, ◌∙◌, subst, ap₂, ⊎_elim, arith}
 use Rattle.std.specs.List.{between, range_with_len}
 use Rattle.std.proofs.lemmas.List.FromFn.{map-range_with_len_more}
 use Rattle.std.proofs.lemmas.List.{get_or-set_same, get_or-set_other, take-take}
@@ -12,17 +12,13 @@ use Rattle.tokens.specs.declared.fault.Fault.TheVariants.{ManyBindings}
 use Rattle.reading.specs.Cursors.{bracket_at}
 use Rattle.reading.specs.States.{State, Halt, ◌>>=◌, ◌then◌, from}
 use Rattle.reading.proofs.Lists.{listed, marks_are_brackets}
-use Rattle.reading.specs.Bindings.{Bound, Bounds, held_at, held, InOrder, Filled, pushed, binding_mark, binding_turn, binding, binding_list}
-
--- no binding
-abbrev pub cleared : Bindings → Bindings
-cleared b = record { variables = b.variables; places = set b.places 0 0; terms = b.terms; count = 0 }
+use Rattle.reading.specs.Bindings.{Bound, Bounds, held_at, held, Filled, pushed, binding_mark, binding_turn, binding, binding_list}
 
 -- other words behind those of the bindings
 abbrev pub with_terms : Bindings → List ℕ → Bindings
 with_terms b terms = record { variables = b.variables; places = b.places; terms = terms; count = b.count }
 
-abbrev bound : ℕ → List ℕ → Bound
+abbrev pub bound : ℕ → List ℕ → Bound
 bound i ws = record { variable = i; words = ws }
 
 counted_same : {X : Type 0} (f g : ℕ → X) (a n : ℕ) → ((k : ℕ) → a ≤ k → k < a + n → f k ≡ g k) → map f (range_with_len a n) ≡ map g (range_with_len a n)
@@ -32,20 +28,6 @@ counted_same f g a (suc n) h = ap₂ (λ x xs. x ∷ xs) (h a (omega arith) (ome
 pub between_same : (xs ys : List ℕ) (i j c : ℕ) → take c xs ≡ take c ys → j ≤ c → between i j xs ≡ between i j ys
 between_same xs ys i j c e h =
     between_is xs i j ∙ ap (drop i) (sym (take-take j c xs h) ∙ ap (take j) e ∙ take-take j c ys h) ∙ sym (between_is ys i j)
-
-first_zero : (xs : List ℕ) → get_or (set xs 0 0) 0 0 ≡ 0
-first_zero [] = refl
-first_zero (x ∷ xs) = refl
-
-pub filled_none : (b : Bindings) → Filled (cleared b) 0
-filled_none b = (omega arith, omega arith, first_zero b.places, below, λ k h. absurd (omega arith))
-  where
-    below : (k : ℕ) → k ≤ 0 → get_or (set b.places 0 0) k 0 ≤ 0
-    below zero h = omega (arith, first_zero b.places)
-    below (suc k) h = absurd (omega arith)
-
-pub in_order : (b : Bindings) (c : ℕ) → Filled b c → InOrder b
-in_order b c f = (f.0, λ k h. (f.4 k h, omega (arith, f.3 (k + 1) (omega arith))))
 
 module _ (b : Bindings) (terms : List ℕ) (c v e : ℕ) (few : b.count < limits.bindings) (places : length b.places ≡ limits.bindings + 1) (full : Filled b c) where
   abbrev more : Bindings
