@@ -1,6 +1,5 @@
 -- A clause of the grammar is read.
 use Rattle.std.proofs.Common.{◌≡◌, ℕ, zero, suc, ◌+◌, ◌≤◌, Bool, true, false, cond, ◌||◌, eqb, List, [], ◌∷◌, ◌++◌, length, Ok, Err, codes, Result, sym, refl, ap, ◌∙◌, subst, arith}
-use Rattle.std.proofs.lemmas.Bool.Decides.{nat_tests}
 use Rattle.std.proofs.lemmas.Bool.{cond-false}
 use Rattle.std.proofs.lemmas.Slice.Eq.{bytes_eq-Decides}
 use Rattle.std.specs.Str.{bytes_eq}
@@ -22,7 +21,7 @@ use Rattle.reading.specs.Terms.{slot, turn, nest, application, term_turn, term, 
 use Rattle.reading.specs.Clauses.{opened, opening, closed, closing, worded, wording, marked, literal_mark, is_equals, is_not, mark_turn, sides, atom, negated, literal, literal_list, clause}
 use Rattle.reading.proofs.Turns.{nest_application}
 use Rattle.reading.proofs.Lists.{literals_suc}
-use Rattle.spelling.specs.Appearance.{term_symbols, atom_symbols, clause_symbols, Appear, none_more}
+use Rattle.spelling.specs.Appearance.{term_symbols, atom_symbols, clause_symbols, Appear}
 use Rattle.spelling.specs.Grammar.{SpellsAtom, SpellsLiteral, SpellsLiterals, SpellsClause, an_atom, an_equation, positive, negative, no_literals, more_literals, a_clause}
 use Rattle.spelling.proofs.Answers.{ok_same, bind_ok}
 use Rattle.spelling.proofs.Tables.{within_table}
@@ -30,7 +29,7 @@ use Rattle.spelling.proofs.Streams.{Tokens, wrote_join, wrote_one}
 use Rattle.spelling.proofs.Appearing.{appear_split, appear_more}
 use Rattle.spelling.proofs.TermsGrow.{SlotRead, slot_read, some}
 use Rattle.spelling.proofs.HeadsGo.{Final}
-use Rattle.spelling.proofs.TermsGo.{First, first_token, Roomy, roomy_left, roomy_right, Toward, Went, TermDone, BodyDone, ArgsGo, body_read, toward_moved, went_over, term_goes, terms_go}
+use Rattle.spelling.proofs.TermsGo.{First, first_token, suc_some, appears_none, Roomy, roomy_left, roomy_right, Toward, Went, TermDone, BodyDone, ArgsGo, body_read, toward_moved, went_over, term_goes, terms_go}
 
 -- ── Brackets and words ──
 
@@ -56,9 +55,6 @@ mark_goes bs st none l t m e k f =
     ap (λ r. lift st.symbols st.rows (r then λ x. marked (ManyLiterals x.place) none x.place x.end x.tok)) e
     ∙ ap (λ x. lift st.symbols st.rows (marked (ManyLiterals l.place) none l.place l.end x)) k
     ∙ ap (lift st.symbols st.rows) f
-
-suc_some : (l : ℕ) → eqb (suc l) 0 ≡ false
-suc_some l = grind (arith, nat_tests)
 
 -- a name that may be a symbol's is not the word `not`
 not_reserved : (r : List ℕ) → reserved r ≡ false → bytes_eq r (codes "not") ≡ false
@@ -305,9 +301,6 @@ module _ (bs : List ℕ) (p : Purpose) (first : ℕ) (table : List SymbolRow) (f
             (ap (λ z. z >>= literal_list bs (suc l)) d.goes ∙ r.goes);
       }
 
-  appears_none : (n m : ℕ) → Appear (enters p) n [] m → m ≡ n
-  appears_none n m none_more = refl
-
   -- a literal begins with an opening bracket
   opens_first : {l : Literal} {ts us : List Tok} (q : ℕ) → SpellsLiteral table l ts us → Tokens bs q ts → (o : Lexed) × (lex bs q ≡ Ok o) × (o.tok ≡ opens)
   opens_first q (positive {ts = ts} y) there = let f = first_token bs q (opens ∷ ts) there in (f.0, f.1, f.2)
@@ -316,7 +309,7 @@ module _ (bs : List ℕ) (p : Purpose) (first : ℕ) (table : List SymbolRow) (f
   pub literals_done : {c : Clause} {ts vs : List Tok} → SpellsLiterals table c ts vs → (l : ℕ) (a : State) (m : ℕ) (us : List Tok) → vs ≡ closes ∷ us → length c ≤ l → On a
       → Appear (enters p) a.symbols (clause_symbols c) m → m ≤ length table → Roomy p a.count (length (clause_words c)) → Tokens bs a.pos ts
       → Done (literal_list bs (suc l)) a (clause_words c) us m
-  literals_done (no_literals) l a m us e few on appear top roomy there = list_end l a us m on (appears_none a.symbols m appear) (subst (Tokens bs a.pos) e there)
+  literals_done (no_literals) l a m us e few on appear top roomy there = list_end l a us m on (appears_none p a.symbols m appear) (subst (Tokens bs a.pos) e there)
   literals_done (more_literals {l = x} {c = c} {ts = ts} {us = mid} y z) zero a m us e few on appear top roomy there = absurd (omega arith)
   literals_done (more_literals {l = x} {c = c} {ts = ts} {us = mid} y z) (suc l) a m us e few on appear top roomy there =
       let o = opens_first a.pos y there in

@@ -1,9 +1,9 @@
 -- The decimal numeral of a number is in form.
 use Rattle.std.proofs.lemmas.List.Sums.{fold-append}
-use Rattle.std.proofs.Common.{◌≡◌, ℕ, suc, ◌+◌, ◌-◌, ◌*◌, ◌%◌, ◌^◌, ◌<◌, ◌≤◌, Bool, true, false, cond, ◌||◌, eqb, leb, ◌⊎◌, List, [], ◌∷◌, length, get_or, decimal as numeral, refl, ap, ◌∙◌, inl, inr, mod-lt, one-add, arith}
+use Rattle.std.proofs.Common.{◌≡◌, ℕ, suc, ◌+◌, ◌-◌, ◌*◌, ◌%◌, ◌^◌, ◌<◌, ◌≤◌, true, cond, ◌||◌, eqb, leb, ◌⊎◌, List, [], ◌∷◌, length, get_or, decimal as numeral, refl, ap, ◌∙◌, inl, inr, mod-lt, one-add, arith}
 use native.Mathlib.Nat.{mod-add-div}
 use Rattle.std.proofs.lemmas.Bool.Decides.{nat_tests}
-use Rattle.std.proofs.lemmas.Bool.{eq-eqb, le-leb, cases_lt, and_from}
+use Rattle.std.proofs.lemmas.Bool.{eq-eqb, le-leb, cases_lt, and_from, or_left, or_right}
 use Rattle.std.proofs.lemmas.Fmt.{decimal_by_steps, decimal_nonempty, decimal_digit, first_decimal}
 use Rattle.std.specs.List.{prefix_len, AllByRecursion}
 use Rattle.std.proofs.ByRecursion.{All-append}
@@ -40,17 +40,9 @@ leading_all (d ∷ ds) a = ap (λ b. cond b (1 + prefix_len digit ds) 0) a.0 ∙
 plain : (n : ℕ) → n < 2 ^ 64 → (eqb (length (numeral n)) 1 || leb 49 (get_or (numeral n) 0 0)) ≡ true
 plain n h = by (cases_lt 0 n)
   where
-    either_right : (a b : Bool) → b ≡ true → (a || b) ≡ true
-    either_right true b e = refl
-    either_right false b e = e
-
-    either_left : (a b : Bool) → a ≡ true → (a || b) ≡ true
-    either_left true b e = refl
-    either_left false b e = cc
-
     by : (0 < n) ⊎ (n ≤ 0) → (eqb (length (numeral n)) 1 || leb 49 (get_or (numeral n) 0 0)) ≡ true
-    by (inl some) = either_right _ _ (le-leb 49 (get_or (numeral n) 0 0) (first_decimal n some h))
-    by (inr none) = either_left _ _ (eq-eqb (length (numeral n)) 1 (ap length (decimal_digit n (omega arith))))
+    by (inl some) = or_right _ _ (le-leb 49 (get_or (numeral n) 0 0) (first_decimal n some h))
+    by (inr none) = or_left _ _ (eq-eqb (length (numeral n)) 1 (ap length (decimal_digit n (omega arith))))
 
 pub numeral_form : (n : ℕ) → n < 2 ^ 64 → decimal (numeral n) ≡ true
 numeral_form n h =

@@ -2,8 +2,7 @@
 use Rattle.std.proofs.Common.{◌≡◌, ℕ, suc, ◌+◌, ◌-◌, ◌<◌, ◌≤◌, Bool, true, false, cond, eqb, leb, List, [], ◌∷◌, ◌++◌, length, get_or, take, drop, Ok, Err, Result, sym, refl, ap, ◌∙◌, subst, add-one, one-add, arith, length-drop, drop_of_length-le, drop-cons}
 use lib.Seq.{take-append_seam, drop-append_seam}
 use Rattle.std.proofs.lemmas.List.{drop-drop, take-append-drop, get_or-drop}
-use Rattle.std.proofs.lemmas.Bool.Decides.{nat_tests}
-use Rattle.std.proofs.lemmas.Bool.{eqb-true, leb-false, leb-true, le-leb, cond-true, cond-false}
+use Rattle.std.proofs.lemmas.Bool.{eqb-true, leb-false, leb-true, le-leb, lt-leb, cond-true, cond-false}
 use Rattle.std.specs.List.{prefix_len, AllByRecursion, between}
 use Rattle.logic.specs.Names.{name_byte}
 use Rattle.tokens.specs.declared.byte.Class.{Class}
@@ -172,10 +171,7 @@ module _ (bs : List ℕ) where
       ap (token_at bs) same
 
   inside : (p x : ℕ) (xs : List ℕ) → drop p bs ≡ x ∷ xs → leb (length bs) p ≡ false
-  inside p x xs e = never_le (length bs) p (byte_at p x xs e).0
-    where
-      never_le : (m n : ℕ) → n < m → leb m n ≡ false
-      never_le m n h = grind (arith, nat_tests)
+  inside p x xs e = lt-leb (length bs) p (byte_at p x xs e).0
 
   same_tokens : (p q : ℕ) (ts : List Tok) → lex bs p ≡ lex bs q → Tokens bs q ts → Tokens bs p ts
   same_tokens p q [] e (stop f) = stop (e ∙ f)

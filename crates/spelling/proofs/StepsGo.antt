@@ -1,8 +1,7 @@
 -- Bindings, justifications and step lines that are spelled are read.
-use Rattle.std.proofs.Common.{◌≡◌, ℕ, zero, suc, ◌+◌, ◌<◌, ◌≤◌, Bool, false, eqb, leb, List, [], ◌∷◌, ◌++◌, map, length, take, Ok, Err, Result, sym, refl, ap, ◌∙◌, subst, append_assoc, append-nil, arith, length-append}
-use Rattle.std.proofs.lemmas.Bool.Decides.{nat_tests}
+use Rattle.std.proofs.Common.{◌≡◌, ℕ, zero, suc, ◌+◌, ◌≤◌, Bool, false, eqb, List, [], ◌∷◌, ◌++◌, map, length, take, Ok, Err, Result, sym, refl, ap, ◌∙◌, subst, append_assoc, append-nil, arith, length-append}
 use Rattle.std.proofs.lemmas.List.{length-take-le}
-use Rattle.std.proofs.lemmas.Bool.{cond-false}
+use Rattle.std.proofs.lemmas.Bool.{cond-false, lt-leb}
 use Rattle.std.specs.List.{between}
 use Rattle.logic.specs.Syntax.{Term}
 use Rattle.logic.specs.Words.{term_words}
@@ -33,9 +32,6 @@ use Rattle.spelling.proofs.RulesRead.{fits_itself, start}
 use Rattle.spelling.proofs.RulesGo.{not_exceeding}
 use Rattle.spelling.proofs.SealedTables.{term_stays}
 use Rattle.spelling.proofs.StepsRead.{poured_between, list_suc, term-length}
-
-not_full : (k : ℕ) → k < 512 → leb 512 k ≡ false
-not_full k h = grind (arith, nat_tests)
 
 module _ (bs : List ℕ) (n : ℕ) (rows : List SymbolRow) (counted : Counted n rows) where
   abbrev pub table : List SymbolRow
@@ -119,7 +115,7 @@ module _ (bs : List ℕ) (n : ℕ) (rows : List SymbolRow) (counted : Counted n 
           term_done bs for-bindings n table sealed_final 32 st t (closes ∷ us) (length table)
           (term_goes bs for-bindings n table sealed_final s st (length table) (toward_moved bs for-bindings n table sealed_final a f.0.end ready.on)
           (subst (λ (j : ℕ). Appear false j (term_symbols t) (length table)) (sym ready.all) (term_stays false table s)) (omega arith)
-          (λ k h l. not_full k (omega (arith, ready.room))) f.3) in
+          (λ k h l. lt-leb 512 k (omega (arith, ready.room))) f.3) in
           after f.0 d f.1 f.2 (first_token bs d.b.pos (closes ∷ us) d.went.left)
 
   -- ── The list ──

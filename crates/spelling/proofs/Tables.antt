@@ -1,9 +1,9 @@
 -- How the symbol table grows while a line is read, and the tables that it may grow into.
-use Rattle.std.proofs.Common.{◌≡◌, ℕ, ◌+◌, ◌-◌, ◌<◌, ◌≤◌, Bool, true, false, ◌≢◌, List, length, get_or, take, set, replicate, Some, None, Decides, Option, sym, refl, ap, ◌∙◌, subst, ap₂, inl, inr, arith, length-set}
+use Rattle.std.proofs.Common.{◌≡◌, ℕ, ◌+◌, ◌-◌, ◌<◌, ◌≤◌, Bool, true, ◌≢◌, List, length, get_or, take, set, replicate, Some, None, Decides, Option, sym, refl, ap, ◌∙◌, subst, ap₂, inl, inr, arith, length-set}
 use lib.Seq.{take-append_seam}
 use Rattle.std.proofs.lemmas.List.{get_or-set_same, get_or-set_other, get_or-take, get_or_default, length-take-le}
 use Rattle.std.proofs.lemmas.Slice.Eq.{bytes_eq-Decides}
-use Rattle.std.proofs.lemmas.Bool.{cases_lt, cases_eq}
+use Rattle.std.proofs.lemmas.Bool.{cases_lt, cases_eq, false_from_ne_true}
 use Rattle.logic.specs.declared.row.SymbolRow.{SymbolRow}
 use Rattle.logic.specs.declared.row.Kind.{Kind}
 use Rattle.logic.specs.Symbols.{row_at, name_of, no_row}
@@ -114,10 +114,6 @@ fits_before n r m s table g f =
 pub name_decides : (name : List ℕ) (row : SymbolRow) → Decides (has_name row name) (name_of row ≡ name)
 name_decides name row = bytes_eq-Decides (name_of row) name
 
-never_true : (b : Bool) → (b ≡ true → ⊥) → b ≡ false
-never_true true h = absurd (h refl)
-never_true false h = refl
-
 module _ (name : List ℕ) where
   abbrev Named : SymbolRow → Type 0
   Named row = name_of row ≡ name
@@ -132,14 +128,14 @@ module _ (name : List ℕ) where
   found_at rows s lt here before =
       first_some (λ row. has_name row name) rows s no_row lt ((name_decides name (row_at rows s)).1 here)
       (λ k d h.
-      never_true (has_name (get_or rows k d) name)
+      false_from_ne_true (has_name (get_or rows k d) name)
       (λ t. before k h (ap name_of (get_or_default rows k no_row d (omega arith)) ∙ (name_decides name (get_or rows k d)).0 t)))
 
   pub found_none : (rows : List SymbolRow) → ((k : ℕ) → k < length rows → Named (row_at rows k) → ⊥) → place_of_name rows name ≡ None
   found_none rows before =
       first_none (λ row. has_name row name) rows
       (λ k d h.
-      never_true (has_name (get_or rows k d) name)
+      false_from_ne_true (has_name (get_or rows k d) name)
       (λ t. before k h (ap name_of (get_or_default rows k no_row d h) ∙ (name_decides name (get_or rows k d)).0 t)))
 
   module _ (n : ℕ) (rows table : List SymbolRow) (short : n ≤ length rows) (f : Fits n rows table) where

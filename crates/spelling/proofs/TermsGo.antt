@@ -58,6 +58,10 @@ pub variable_goes : (r : List ℕ) (i at : ℕ) → VariableRun r i → variable
 unfolding variable_form
 variable_goes r i at v = numeral_goes r _ (limits.variables - 1) i at v
 
+-- where no symbol appears, none is met
+pub appears_none : (p : Purpose) (n m : ℕ) → Appear (enters p) n [] m → m ≡ n
+appears_none p n m none_more = refl
+
 module _ (bs : List ℕ) (p : Purpose) (first : ℕ) (table : List SymbolRow) (final : Final first table) where
   -- a state from which the table can be reached
   pub record Toward (a : State) : Type 0 where
@@ -308,14 +312,11 @@ module _ (bs : List ℕ) (p : Purpose) (first : ℕ) (table : List SymbolRow) (f
             ∙ ap (λ n. Ok (n, r.b)) (omega arith);
       }
 
-  appears_none : (n m : ℕ) → Appear (enters p) n [] m → m ≡ n
-  appears_none n m none_more = refl
-
   mutual
     pub term_goes : {room : ℕ} {t : Term} {ts us : List Tok} → SpellsTerm table room t ts us → (a : State) (m : ℕ) → Toward a → Appear (enters p) a.symbols (term_symbols t) m
         → m ≤ length table → Roomy p a.count (length (term_words t)) → Tokens bs a.pos ts → TermDone room a t us m
     term_goes {room} (a_variable {i = i} {r = r} {ts = us} some v) a m on appear top roomy there =
-        variable_read room i r us m some v a on (appears_none a.symbols m appear) roomy there
+        variable_read room i r us m some v a on (appears_none p a.symbols m appear) roomy there
     term_goes (an_application {room = k} {s = s} {args = qs} {r = r} {ts = ts} {us = us} names inner) a m on appear top roomy there =
         application_read k s qs r ts us m names
         (λ c j onc ap-c top-c room-c there-c.
@@ -326,7 +327,7 @@ module _ (bs : List ℕ) (p : Purpose) (first : ℕ) (table : List SymbolRow) (f
         → count qs ≤ l → Toward a → Appear (enters p) a.symbols (terms_symbols qs) m → m ≤ length table → Roomy p a.count (length (terms_words qs))
         → Tokens bs a.pos ts → ArgsDone room l given a qs us m
     terms_go {room} (no_terms) l given a m us e few on appear top roomy there =
-        closed_read room l given a us m on (appears_none a.symbols m appear) (subst (Tokens bs a.pos) e there)
+        closed_read room l given a us m on (appears_none p a.symbols m appear) (subst (Tokens bs a.pos) e there)
     terms_go {room} (more_terms {t = t} {args = qs} {us = ws} x y) zero given a m us e few on appear top roomy there = absurd (omega arith)
     terms_go {room} (more_terms {t = t} {args = qs} {us = ws} x y) (suc l) given a m us e few on appear top roomy there =
         let parts = appear_split (enters p) a.symbols (term_symbols t) (terms_symbols qs) m appear in
