@@ -13,7 +13,7 @@ use crate::question::Question;
 use crate::rule::Rule;
 use lines::{Shape, Shapes};
 
-/// A row of inference rules; what it answers a keyword with is how the justifications of the first rule with the keyword are read.
+/// A row of inference rules; the shape of a keyword is that of the first rule that has it.
 pub trait Bench: Shapes {
     ghost row: { List Meaning };
 

@@ -1,8 +1,9 @@
 //! The interface of an inference rule.
-ghost use Rattle.std.specs.Prelude.{◌≡◌, ℕ, Bool};
+ghost use Rattle.std.specs.Prelude.{◌≡◌};
 ghost use Rattle.bench.specs.Faults.{answered};
 ghost use Rattle.bench.specs.Meanings.{Asked, Meaning, Sound};
 ghost use Rattle.bench.specs.Questions.{Shows};
+ghost use Rattle.lines.specs.declared.shape.Shape.{Shape};
 
 use crate::fault::RuleFault;
 use crate::question::Question;
@@ -19,32 +20,15 @@ pub trait Inference {
 pub trait Rule: Inference {
     const KEYWORD: &'static [u8];
 
-    const PREMISES: u32;
+    const JUSTIFICATION: Shape;
 
-    const LITERALS: u32;
+    ghost JUSTIFICATION: { Shape };
 
-    const POSITION: bool;
-
-    const BINDINGS: bool;
-
-    ghost PREMISES: { ℕ };
-
-    ghost LITERALS: { ℕ };
-
-    ghost POSITION: { Bool };
-
-    ghost BINDINGS: { Bool };
-
-    /// The constants that say what stands behind the keyword.
-    fn shape(&self) -> Shape
+    /// What a justification has behind the keyword.
+    final fn shape(&self) -> Shape
         ensures { result ≡ Self.Inference.means.shape }
     {
-        Shape {
-            premises: Self::PREMISES,
-            literals: Self::LITERALS,
-            position: Self::POSITION,
-            bindings: Self::BINDINGS,
-        }
+        Self::JUSTIFICATION
     }
 
     /// The keyword. Each impl gives its constant, since a proof cannot name one that is a reference: the address is not known.
@@ -56,5 +40,5 @@ pub trait Rule: Inference {
     fn ask(&self, question: &Question<'_>) -> Result<(), RuleFault>
         ensures means { (s : Asked) → Shows s question.now → answered result ≡ Self.Inference.means.answers s };
 
-    ghost shaped: { record { premises = PREMISES; literals = LITERALS; position = POSITION; bindings = BINDINGS } ≡ Self.Inference.means.shape };
+    ghost shaped: { JUSTIFICATION ≡ Self.Inference.means.shape };
 }

@@ -19,7 +19,7 @@ pub(crate) fn bound_variables(bindings: &Bindings) -> &[u32]
 pub(crate) fn bound_words(bindings: &Bindings, k: usize) -> &[u32]
     ensures { result.now ≡ (held_at bindings.now k).words }
 {
-    // No plainer by get: a span past the end is cut off there, and a get would have nothing.
+    // Clamped, and no get: of a span that runs past the end, the part within counts.
     if k >= BINDINGS {
         return &[];
     }
@@ -29,7 +29,7 @@ pub(crate) fn bound_words(bindings: &Bindings, k: usize) -> &[u32]
 }
 
 /// Whether some variable is bound twice.
-// Marks in an array, since checking allocates nothing; by index, since with get_mut the proof did not close (tried).
+// An array, since checking allocates nothing; by index, since with get_mut the proof did not close (tried).
 pub(crate) fn bound_twice(variables: &[u32]) -> bool
     ensures { Decides result (Repeats variables.now) }
 {

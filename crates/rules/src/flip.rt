@@ -1,12 +1,12 @@
 //! The inference rule `flip`: the sides of an equality are exchanged.
-ghost use Rattle.std.specs.Prelude.{false, refl};
+ghost use Rattle.std.specs.Prelude.{refl};
 ghost use Rattle.rules.specs.Six.{flip_rule};
 ghost use Rattle.rules.specs.Laws.{flip_keeps};
 
 use crate::literal::numbered;
 use crate::pieces::conclude;
 use crate::sides::{is_equation, right_side};
-use bench::{Inference, Question, Rule, RuleFault};
+use bench::{Inference, Question, Rule, RuleFault, Shape};
 use logic::Span;
 
 /// The inference rule `flip`.
@@ -22,21 +22,14 @@ impl Inference for Flip {
 impl Rule for Flip {
     const KEYWORD: &'static [u8] = b"flip";
 
-    const PREMISES: u32 = 1;
+    const JUSTIFICATION: Shape = Shape {
+        premises: 1,
+        literals: 1,
+        position: false,
+        bindings: false,
+    };
 
-    const LITERALS: u32 = 1;
-
-    const POSITION: bool = false;
-
-    const BINDINGS: bool = false;
-
-    ghost PREMISES = { 1 };
-
-    ghost LITERALS = { 1 };
-
-    ghost POSITION = { false };
-
-    ghost BINDINGS = { false };
+    ghost JUSTIFICATION = { flip_rule.shape };
 
     ghost shaped = { refl };
 

@@ -1,5 +1,5 @@
 //! The inference rule `instantiate`: each bound variable is replaced by its term, all at once.
-ghost use Rattle.std.specs.Prelude.{◌≡◌, ℕ, List, false, true, refl};
+ghost use Rattle.std.specs.Prelude.{◌≡◌, ℕ, List, refl};
 ghost use Rattle.std.specs.List.{flat_map};
 ghost use Rattle.rules.specs.Images.{ReplacesWords};
 ghost use Rattle.rules.specs.Pieces.{Allows};
@@ -8,7 +8,7 @@ ghost use Rattle.rules.specs.Laws.{instantiate_keeps};
 
 use crate::bound::{binding_of, bound_twice, bound_variables, bound_words};
 use crate::pieces::{allow_if, behind};
-use bench::{Inference, Question, Rule, RuleFault};
+use bench::{Inference, Question, Rule, RuleFault, Shape};
 use reading::Bindings;
 use std::slice;
 
@@ -50,21 +50,14 @@ fn conclude_instance(
 impl Rule for Instantiate {
     const KEYWORD: &'static [u8] = b"instantiate";
 
-    const PREMISES: u32 = 1;
+    const JUSTIFICATION: Shape = Shape {
+        premises: 1,
+        literals: 0,
+        position: false,
+        bindings: true,
+    };
 
-    const LITERALS: u32 = 0;
-
-    const POSITION: bool = false;
-
-    const BINDINGS: bool = true;
-
-    ghost PREMISES = { 1 };
-
-    ghost LITERALS = { 0 };
-
-    ghost POSITION = { false };
-
-    ghost BINDINGS = { true };
+    ghost JUSTIFICATION = { instantiate_rule.shape };
 
     ghost shaped = { refl };
 

@@ -1,5 +1,5 @@
 //! The inference rule `paramod`: one occurrence of the left side of an equality is replaced by its right side.
-ghost use Rattle.std.specs.Prelude.{false, true, refl};
+ghost use Rattle.std.specs.Prelude.{refl};
 ghost use Rattle.rules.specs.Six.{paramod_rule};
 ghost use Rattle.rules.specs.Laws.{paramod_keeps};
 
@@ -7,7 +7,7 @@ use crate::literal::numbered;
 use crate::pieces::conclude;
 use crate::position::term_span;
 use crate::sides::{is_equality, right_side};
-use bench::{Inference, Question, Rule, RuleFault};
+use bench::{Inference, Question, Rule, RuleFault, Shape};
 use logic::{Span, same};
 
 /// The inference rule `paramod`.
@@ -23,21 +23,14 @@ impl Inference for Paramod {
 impl Rule for Paramod {
     const KEYWORD: &'static [u8] = b"paramod";
 
-    const PREMISES: u32 = 2;
+    const JUSTIFICATION: Shape = Shape {
+        premises: 2,
+        literals: 2,
+        position: true,
+        bindings: false,
+    };
 
-    const LITERALS: u32 = 2;
-
-    const POSITION: bool = true;
-
-    const BINDINGS: bool = false;
-
-    ghost PREMISES = { 2 };
-
-    ghost LITERALS = { 2 };
-
-    ghost POSITION = { true };
-
-    ghost BINDINGS = { false };
+    ghost JUSTIFICATION = { paramod_rule.shape };
 
     ghost shaped = { refl };
 

@@ -1,11 +1,11 @@
 //! The inference rule `propositional`: literals change their order, are repeated, or are merged where they are the same.
-ghost use Rattle.std.specs.Prelude.{◌≡◌, false, refl};
+ghost use Rattle.std.specs.Prelude.{◌≡◌, refl};
 ghost use Rattle.rules.specs.Among.{stands_among, StandsAmong, AllAmong, SameAmong};
 ghost use Rattle.rules.specs.Six.{propositional_rule};
 ghost use Rattle.rules.specs.Laws.{propositional_keeps};
 
 use crate::pieces::allow_if;
-use bench::{Inference, Question, Rule, RuleFault};
+use bench::{Inference, Question, Rule, RuleFault, Shape};
 use logic::{Literals, SymbolRow, same};
 
 /// The inference rule `propositional`.
@@ -43,21 +43,14 @@ fn same_literals(one: &[u32], other: &[u32], rows: &[SymbolRow]) -> bool
 impl Rule for Propositional {
     const KEYWORD: &'static [u8] = b"propositional";
 
-    const PREMISES: u32 = 1;
+    const JUSTIFICATION: Shape = Shape {
+        premises: 1,
+        literals: 0,
+        position: false,
+        bindings: false,
+    };
 
-    const LITERALS: u32 = 0;
-
-    const POSITION: bool = false;
-
-    const BINDINGS: bool = false;
-
-    ghost PREMISES = { 1 };
-
-    ghost LITERALS = { 0 };
-
-    ghost POSITION = { false };
-
-    ghost BINDINGS = { false };
+    ghost JUSTIFICATION = { propositional_rule.shape };
 
     ghost shaped = { refl };
 

@@ -1,5 +1,5 @@
 //! The inference rule `reflexive`: an equality with the same term on both sides.
-ghost use Rattle.std.specs.Prelude.{◌≡◌, Decides, refl, false};
+ghost use Rattle.std.specs.Prelude.{◌≡◌, Decides, refl};
 ghost use Rattle.logic.specs.Syntax.{Clause};
 ghost use Rattle.logic.specs.Words.{clause_words};
 ghost use Rattle.logic.specs.Lawful.{Lawful};
@@ -9,7 +9,7 @@ ghost use Rattle.rules.specs.Laws.{reflexive_keeps};
 
 use crate::pieces::allow_if;
 use crate::sides::{is_equality, right_side};
-use bench::{Inference, Question, Rule, RuleFault};
+use bench::{Inference, Question, Rule, RuleFault, Shape};
 use logic::{SymbolRow, same};
 
 /// The inference rule `reflexive`.
@@ -36,21 +36,14 @@ fn is_reflexive(words: &[u32], rows: &[SymbolRow]) -> bool
 impl Rule for Reflexive {
     const KEYWORD: &'static [u8] = b"reflexive";
 
-    const PREMISES: u32 = 0;
+    const JUSTIFICATION: Shape = Shape {
+        premises: 0,
+        literals: 0,
+        position: false,
+        bindings: false,
+    };
 
-    const LITERALS: u32 = 0;
-
-    const POSITION: bool = false;
-
-    const BINDINGS: bool = false;
-
-    ghost PREMISES = { 0 };
-
-    ghost LITERALS = { 0 };
-
-    ghost POSITION = { false };
-
-    ghost BINDINGS = { false };
+    ghost JUSTIFICATION = { reflexive_rule.shape };
 
     ghost shaped = { refl };
 

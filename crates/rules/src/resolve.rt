@@ -1,5 +1,5 @@
 //! The inference rule `resolve`: two literals with the same atom and opposite signs are left out, and what is left is joined.
-ghost use Rattle.std.specs.Prelude.{◌≡◌, ◌+◌, ◌≤◌, ◌⊎◌, List, ◌++◌, length, Decides, refl, false};
+ghost use Rattle.std.specs.Prelude.{◌≡◌, ◌+◌, ◌⊎◌, List, Decides, refl};
 ghost use Rattle.logic.specs.declared.row.SymbolRow.{SymbolRow as Symbols};
 ghost use Rattle.logic.specs.Syntax.{Literal};
 ghost use Rattle.logic.specs.Words.{negation, literal_words};
@@ -10,7 +10,7 @@ ghost use Rattle.rules.specs.Laws.{resolve_keeps};
 
 use crate::literal::numbered;
 use crate::pieces::conclude;
-use bench::{Inference, Question, Rule, RuleFault};
+use bench::{Inference, Question, Rule, RuleFault, Shape};
 use logic::{NEGATION, same};
 
 /// The inference rule `resolve`.
@@ -43,21 +43,14 @@ fn opposed(x: &[u32], y: &[u32]) -> bool
 impl Rule for Resolve {
     const KEYWORD: &'static [u8] = b"resolve";
 
-    const PREMISES: u32 = 2;
+    const JUSTIFICATION: Shape = Shape {
+        premises: 2,
+        literals: 2,
+        position: false,
+        bindings: false,
+    };
 
-    const LITERALS: u32 = 2;
-
-    const POSITION: bool = false;
-
-    const BINDINGS: bool = false;
-
-    ghost PREMISES = { 2 };
-
-    ghost LITERALS = { 2 };
-
-    ghost POSITION = { false };
-
-    ghost BINDINGS = { false };
+    ghost JUSTIFICATION = { resolve_rule.shape };
 
     ghost shaped = { refl };
 
