@@ -11,7 +11,8 @@ use Rattle.inference.specs.Conclusions.{Opposed}
 
 -- ── The words of a literal: its head, and its arguments ──
 
-abbrev head_of : Atom → ℕ
+-- the head of an atom that is not negated
+abbrev pub head_of : Atom → ℕ
 head_of (predicate p ts) = symbol_word p
 head_of (equal s t) = equality_word
 

@@ -9,6 +9,7 @@ use Rattle.logic.specs.Lawful.{count, LawfulTerm, LawfulTerms, LawfulAtom}
 use Rattle.logic.proofs.Spelt.{FormedAtom, formed_atom}
 use Rattle.inference.specs.Positions.{term_at, argument_at, put_term, put_argument, arguments, with_arguments, at_position, put}
 use Rattle.inference.specs.Paramod.{is_found}
+use Rattle.rules.proofs.Opposing.{head_of}
 use Rattle.rules.proofs.Reached.{before_term, before_argument, behind_term, behind_argument}
 
 -- a clause with another literal in a place
@@ -41,10 +42,6 @@ mutual
   split_argument (t ∷ₜ ts) zero p h = absurd h
   split_argument (t ∷ₜ ts) (suc zero) p h = ap (λ r. r ++ terms_words ts) (split_term t p h) ∙ simp append_assoc
   split_argument (t ∷ₜ ts) (suc (suc k)) p h = ap (λ r. term_words t ++ r) (split_argument ts (suc k) p h) ∙ simp append_assoc
-
-abbrev head_of : Atom → ℕ
-head_of (predicate q ts) = symbol_word q
-head_of (equal s t) = equality_word
 
 -- the words of a literal before and behind the term at a position
 abbrev pub before_in : Literal → ℕ → List ℕ → List ℕ

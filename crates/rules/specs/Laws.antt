@@ -1,7 +1,7 @@
 -- Each of the six inference rules keeps the law of the bench.
 use Rattle.std.specs.Prelude.{◌≡◌, ℕ, Bool, true, false, ◌&&◌, ◌||◌, nat_le, List, [], ◌∷◌, length, slice_index_or}
 use Rattle.std.proofs.Common.{refl, subst, inl, inr, arith}
-use Rattle.std.proofs.lemmas.Bool.{leb-true}
+use Rattle.std.proofs.lemmas.Bool.{and_parts, leb-true}
 use Rattle.logic.specs.Syntax.{Clause}
 use Rattle.inference.specs.Answers.{fault, Demand, ◌otherwise◌, answer}
 use Rattle.inference.specs.Law.{Follows}
@@ -32,21 +32,17 @@ abbrev all_numbered : List Demand → Bool
 all_numbered [] = true
 all_numbered ((b otherwise f) ∷ ds) = is_rule_number f && all_numbered ds
 
-parts : (a b : Bool) → (a && b) ≡ true → (a ≡ true) × (b ≡ true)
-parts true b h = (refl, h)
-parts false b h = absurd cc
-
 rule_number : (f : ℕ) → is_rule_number f ≡ true → RuleNumber f
 rule_number f = by (nat_le 21 f && nat_le f 27) refl
   where
     by : (b : Bool) → (nat_le 21 f && nat_le f 27) ≡ b → (b || (nat_le 50 f && nat_le f 99)) ≡ true → RuleNumber f
-    by true low e = let p = parts (nat_le 21 f) (nat_le f 27) low in inl (leb-true 21 f p.0, leb-true f 27 p.1)
-    by false low e = let p = parts (nat_le 50 f) (nat_le f 99) e in inr (leb-true 50 f p.0, leb-true f 99 p.1)
+    by true low e = let p = and_parts (nat_le 21 f) (nat_le f 27) low in inl (leb-true 21 f p.0, leb-true f 27 p.1)
+    by false low e = let p = and_parts (nat_le 50 f) (nat_le f 99) e in inr (leb-true 50 f p.0, leb-true f 99 p.1)
 
 numbered_by : (ds : List Demand) → all_numbered ds ≡ true → (f : ℕ) → answer ds ≡ fault f → RuleNumber f
 numbered_by [] n f e = absurd cc
-numbered_by ((true otherwise g) ∷ ds) n f e = numbered_by ds (parts (is_rule_number g) (all_numbered ds) n).1 f e
-numbered_by ((false otherwise g) ∷ ds) n f e = let q : g ≡ f = cc in subst RuleNumber q (rule_number g (parts (is_rule_number g) (all_numbered ds) n).0)
+numbered_by ((true otherwise g) ∷ ds) n f e = numbered_by ds (and_parts (is_rule_number g) (all_numbered ds) n).1 f e
+numbered_by ((false otherwise g) ∷ ds) n f e = let q : g ≡ f = cc in subst RuleNumber q (rule_number g (and_parts (is_rule_number g) (all_numbered ds) n).0)
 
 -- ── As many premises as the rule takes ──
 

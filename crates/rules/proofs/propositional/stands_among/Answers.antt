@@ -1,15 +1,10 @@
-use Rattle.std.proofs.Common.{◌∙◌, ap, rules}
-use Rattle.std.specs.List.{list_any}
+use Rattle.std.proofs.Common.{◌∙◌, rules}
 use Rattle.std.specs.Str.{bytes_eq}
 use Rattle.std.proofs.lemmas.Iterator.Search.{any_from_yields_List}
 use Rattle.std.proofs.lemmas.Iterator.Consumers.{YieldsList-from_first}
 use Rattle.std.proofs.lemmas.Slice.Eq.{bytes_eq-Decides}
 use Rattle.std.proofs.lemmas.Bool.Decides.{same_from_decides}
-use Rattle.logic.specs.Words.{literal_words}
-use Rattle.logic.specs.Walks.{arities, literals_from}
 use Rattle.logic.specs.Literals.{literals_left}
-use Rattle.logic.proofs.LiteralLists.{literals_clause}
-use Rattle.rules.specs.Among.{stands_among}
 use Rattle.rules.proofs.PropositionalWords.{among}
 use Rattle.rules.proofs.propositional.stands_among.Goals as goal
 
@@ -20,8 +15,4 @@ returns-clause-is c =
     (λ x b q k. (search rules, same_from_decides b (bytes_eq c.args.literal.now x.now) (search rules) (bytes_eq-Decides c.args.literal.now x.now)))
 
 pub returns-clause-literal : goal.returns-clause-literal
-returns-clause-literal c l d g h f k =
-    returns-clause-is c
-    ∙ ap (λ xs. stands_among c.args.rows.now xs c.args.clause.now) f
-    ∙ ap (list_any (bytes_eq (literal_words l))) (ap (literals_from (arities c.args.rows.now) 0) k ∙ literals_clause c.args.rows.now d h.0)
-    ∙ among c.args.rows.now l d g h.0
+returns-clause-literal c l d g h e f = returns-clause-is c ∙ among c.args.rows.now c.args.literal.now c.args.clause.now l d g h e f
