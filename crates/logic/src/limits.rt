@@ -18,6 +18,7 @@ pub const LITERALS: usize = 32;
 /// How many bytes a name may have.
 pub const NAME_BYTES: usize = 16;
 
+// Words are numbers and no enum: the word store is lent as plain numbers, and how they code a clause is what the theorems are about.
 /// The word of symbol 0; a word below it is a variable.
 pub const SYMBOL_WORD: u32 = 256;
 

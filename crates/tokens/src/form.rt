@@ -13,6 +13,7 @@ use logic::{NAME_BYTES, VARIABLES};
 /// The largest number that a line may have.
 pub const LARGEST_NUMBER: u32 = 999_999;
 
+// By hand and not by `parse`, which takes a sign and leading zeros too.
 /// What a run of digits, at most as long as a name, stands for, if all are digits and there are some.
 fn digits(run: &[u8]) -> Option<u64>
     requires { length run.now ≤ name_bytes }
