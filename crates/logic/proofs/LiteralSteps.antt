@@ -1,6 +1,6 @@
 -- One literal of a clause's words.
-use Rattle.std.proofs.Common.{◌≡◌, ℕ, ◌+◌, ◌-◌, ◌<◌, ◌≤◌, Bool, true, false, cond, ltb, List, [], ◌∷◌, ◌++◌, length, get_or, drop, Decides, sym, refl, ap, ◌∙◌, subst, inl, inr, append-nil, arith}
-use Rattle.std.proofs.lemmas.Bool.{lt-ltb, le-ltb, cond-true, cond-false, cases_lt, false≢true}
+use Rattle.std.proofs.Common.{◌≡◌, ℕ, ◌+◌, ◌-◌, ◌<◌, ◌≤◌, Bool, true, false, cond, ltb, List, [], ◌∷◌, ◌++◌, length, get_or, drop, Some, None, Option, MatchOption, sym, refl, ap, ◌∙◌, subst, inl, inr, append-nil, arith}
+use Rattle.std.proofs.lemmas.Bool.{lt-ltb, le-ltb, cond-true, cond-false, cases_lt}
 use Rattle.logic.specs.declared.row.SymbolRow.{SymbolRow}
 use Rattle.logic.specs.declared.row.Kind.TheVariants.{Predicate}
 use Rattle.logic.specs.Symbols.{Symbol}
@@ -120,23 +120,27 @@ module _ (rows : List SymbolRow) where
     from_here : Spells rows most ws → AfterHead most w others
     from_here s = first_literal most w others (subst (Spells rows most) is s)
 
-    not_so : (Spells rows most ws → ⊥) → Decides false (Spells rows most ws)
-    not_so n = (λ e. absurd (false≢true e), λ s. absurd (n s))
+    pub spells_headless : ((a : ℕ) → Takes rows w a → ⊥) → Spells rows most ws → ⊥
+    spells_headless n s = n (from_here s).arity (from_here s).takes
 
-    pub spells_headless : ((a : ℕ) → Takes rows w a → ⊥) → Decides false (Spells rows most ws)
-    spells_headless n = not_so (λ s. n (from_here s).arity (from_here s).takes)
+    pub spells_broken : (a : ℕ) → Takes rows w a → ((rest : List ℕ) → Reads rows 32 a others rest → ⊥) → Spells rows most ws → ⊥
+    spells_broken a t n s = let h = from_here s in
+        n h.mid (subst (λ (k : ℕ). Reads rows 32 k others h.mid) (takes_one w h.arity a h.takes t) h.inner)
 
-    pub spells_broken : (a : ℕ) → Takes rows w a → ((rest : List ℕ) → Reads rows 32 a others rest → ⊥) → Decides false (Spells rows most ws)
-    spells_broken a t n = not_so (λ s. let h = from_here s in
-        n h.mid (subst (λ (k : ℕ). Reads rows 32 k others h.mid) (takes_one w h.arity a h.takes t) h.inner))
+    pub spells_more : {A : Type 0} (a : ℕ) (mid : List ℕ) (r : Option A) → 0 < most → Takes rows w a → Reads rows 32 a others mid
+        → MatchOption r (Spells rows (most - 1) mid → ⊥) (λ _. Spells rows (most - 1) mid)
+        → MatchOption r (Spells rows most ws → ⊥) (λ _. Spells rows most ws)
+    spells_more a mid None m t g n = λ s.
+        let h = from_here s in
+        n (subst (Spells rows (most - 1))
+        (unique rows 32 a others h.mid mid
+        (subst (λ (k : ℕ). Reads rows 32 k others h.mid) (takes_one w h.arity a h.takes t) h.inner) g)
+        h.others)
+    spells_more a mid (Some x) m t g s =
+        subst (Spells rows most) (sym is) (with_literal most w others (record { some = m; arity = a; takes = t; mid = mid; inner = g; others = s }))
 
-    pub spells_more : (a : ℕ) (mid : List ℕ) (r : Bool) → 0 < most → Takes rows w a → Reads rows 32 a others mid
-        → Decides r (Spells rows (most - 1) mid) → Decides r (Spells rows most ws)
-    spells_more a mid r m t g d = (
-      λ e. subst (Spells rows most) (sym is) (with_literal most w others (record { some = m; arity = a; takes = t; mid = mid; inner = g; others = d.0 e })),
-      λ s. let h = from_here s in
-          d.1 (subst (Spells rows (most - 1))
-          (unique rows 32 a others h.mid mid
-          (subst (λ (k : ℕ). Reads rows 32 k others h.mid) (takes_one w h.arity a h.takes t) h.inner) g)
-          h.others),
-    )
+  -- where the words are not those of such a clause, there is no answer
+  pub spells_none : {A : Type 0} {most : ℕ} {ws : List ℕ} (r : Option A) → r ≡ None → (Spells rows most ws → ⊥)
+      → MatchOption r (Spells rows most ws → ⊥) (λ _. Spells rows most ws)
+  spells_none None e n = n
+  spells_none (Some x) e n = cc

@@ -1,5 +1,5 @@
 //! Whether words are those of some lawful clause.
-ghost use Rattle.std.specs.Prelude.{◌≡◌, Decides};
+ghost use Rattle.std.specs.Prelude.{◌≡◌, Decides, MatchOption};
 ghost use Rattle.logic.specs.Syntax.{Clause};
 ghost use Rattle.logic.specs.Words.{clause_words};
 ghost use Rattle.logic.specs.Lawful.{Lawful};
@@ -57,23 +57,19 @@ fn arguments(rows: &[SymbolRow], w: u32) -> Option<usize>
     arity_of(rows, (head - SYMBOL_WORD) as usize, Kind::Predicate)
 }
 
-/// Whether the words are those of a lawful clause of at most `most` literals.
-fn clause_in(words: &[u32], rows: &[SymbolRow], most: usize) -> bool
-    ensures { Decides result (Spells rows.now most words.now) }
+/// `Some` where the words are those of a lawful clause of at most `most` literals.
+// An `Option` of nothing and no bool, so that `?` ends it where a part is missing.
+fn clause_in(words: &[u32], rows: &[SymbolRow], most: usize) -> Option<()>
+    ensures { MatchOption result (Spells rows.now most words.now → ⊥) (λ _. Spells rows.now most words.now) }
 {
-    // `let else` and no `?` here and below: the answer is a bool.
     let Some((word, rest)) = words.split_first() else {
-        return true;
+        return Some(());
     };
     if most == 0 {
-        return false;
+        return None;
     }
-    let Some(n) = arguments(rows, *word) else {
-        return false;
-    };
-    let Some(others) = lawful_rest(rest, rows, n, DEPTH) else {
-        return false;
-    };
+    let n = arguments(rows, *word)?;
+    let others = lawful_rest(rest, rows, n, DEPTH)?;
     clause_in(others, rows, most - 1)
 }
 
@@ -81,5 +77,5 @@ fn clause_in(words: &[u32], rows: &[SymbolRow], most: usize) -> bool
 pub fn is_clause(words: &[u32], rows: &[SymbolRow]) -> bool
     ensures { Decides result ((c : Clause) × (words.now ≡ clause_words c) × Lawful rows.now c) }
 {
-    clause_in(words, rows, LITERALS)
+    clause_in(words, rows, LITERALS).is_some()
 }
