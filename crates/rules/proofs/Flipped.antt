@@ -5,7 +5,6 @@ use Rattle.std.proofs.lemmas.Slice.{between_to_end}
 use Rattle.std.proofs.ByRecursion.{All-set}
 use Rattle.std.proofs.lemmas.Bool.Decides.{not_from_Decides}
 use Rattle.logic.specs.declared.row.SymbolRow.{SymbolRow}
-use Rattle.logic.specs.declared.words.Span.{Span}
 use Rattle.logic.specs.Syntax.{Term, Literal, Clause, equal}
 use Rattle.logic.specs.Words.{equality_word, negation, term_words, literal_words, clause_words}
 use Rattle.logic.specs.Lawful.{LawfulTerm, LawfulAtom}
@@ -21,9 +20,11 @@ use Rattle.bench.proofs.Shown.{premise_lawful}
 use Rattle.inference.specs.Conclusions.{IsEquation, exchange}
 use Rattle.inference.specs.Flip.{flip}
 use Rattle.rules.specs.Sides.{Headed, Parted}
+use Rattle.rules.specs.declared.literal.Parts.{Parts}
+use Rattle.rules.specs.Numbered.{Around}
 use Rattle.rules.specs.Pieces.{Allows}
 use Rattle.rules.proofs.Concluded.{answered_last}
-use Rattle.rules.proofs.Located.{Around, allowed_by_words}
+use Rattle.rules.proofs.Located.{allowed_by_words}
 use Rattle.rules.proofs.Numbered as numbered
 use Rattle.rules.proofs.Numbered.{Finds}
 use Rattle.inference.proofs.Order.{flip_answers}
@@ -54,10 +55,10 @@ module _ (q : Question) (s : Asked) (shown : Shows s q) where
   abbrev c : Clause
   c = s.conclusion
 
-  module _ (sp : Span) (f : Finds q 0 wi (Ok sp)) where
+  module _ (sp : Parts) (f : Finds q 0 wi (Ok sp)) where
     -- the words of the literal, and where they stand
     abbrev lit : List ℕ
-    lit = between sp.start sp.end wi
+    lit = sp.literal.now
 
     abbrev la : Literal
     la = literal i a
@@ -65,7 +66,7 @@ module _ (q : Question) (s : Asked) (shown : Shows s q) where
     abbrev Equation : Type 0
     Equation = Headed equality_word lit ⊎ Headed (negation + equality_word) lit
 
-    stands : Around wi i a sp
+    stands : Around i a sp
     stands = numbered.stands q s shown 0 wi shown.first sp f
 
     lawful : LawfulAtom rows la.atom
@@ -109,16 +110,15 @@ module _ (q : Question) (s : Asked) (shown : Shows s q) where
 
       -- the pieces of the flipped clause
       abbrev pub pieces : List ℕ
-      pieces = take sp.start wi ++ (take 1 lit ++ (between right (length lit) lit ++ (between 1 right lit ++ (between sp.end (length wi) wi ++ []))))
+      pieces = sp.before.now ++ (take 1 lit ++ (between right (length lit) lit ++ (between 1 right lit ++ (sp.behind.now ++ []))))
 
       words_are : clause_words (exchange i a eq.s eq.t) ≡ pieces
       words_are =
           let z : suc (a - 1) ≡ a = omega (arith, stands.has.0) in
           set_words i (a - 1) other (omega (arith, stands.has.0, stands.has.1))
           ∙ ap₂ (λ xs n. xs ++ (literal_words other ++ clause_words (drop n i))) (sym stands.before) z
-          ∙ ap₂ (λ xs ys. take sp.start wi ++ (xs ++ ys)) literal_flipped
-          (sym (between_to_end wi sp.end (length wi) (le_refl (length wi)) ∙ stands.behind))
-          ∙ regroup (take sp.start wi) (take 1 lit) (between right (length lit) lit) (between 1 right lit) (between sp.end (length wi) wi)
+          ∙ ap₂ (λ xs ys. sp.before.now ++ (xs ++ ys)) literal_flipped (sym stands.behind)
+          ∙ regroup sp.before.now (take 1 lit) (between right (length lit) lit) (between 1 right lit) sp.behind.now
 
       exchange_formed : Formed rows (exchange i a eq.s eq.t)
       exchange_formed =

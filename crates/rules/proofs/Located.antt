@@ -1,7 +1,8 @@
 -- The words before, of and behind a literal of a clause; and conclusions compared by their words.
-use Rattle.std.proofs.Common.{◌≡◌, ℕ, ◌+◌, ◌-◌, ◌<◌, ◌⊎◌, List, ◌++◌, length, take, drop, Result, sym, ap, ◌∙◌, ap₂, ⊎_elim, append_assoc, le_refl, arith, length-append}
+use Rattle.std.proofs.Common.{◌≡◌, ℕ, ◌+◌, ◌-◌, ◌<◌, ◌≤◌, ◌⊎◌, List, ◌++◌, length, take, drop, Result, sym, ap, ◌∙◌, ap₂, ⊎_elim, append_assoc, le_refl, arith, length-append}
 use Rattle.std.specs.List.{between}
 use Rattle.std.proofs.lemmas.List.{take_at, drop_at}
+use Rattle.std.proofs.lemmas.List.Edits.{split_between}
 use Rattle.std.proofs.lemmas.Slice.{between_to_end}
 use Rattle.std.proofs.ByRecursion.{All-append, All-take, All-drop, All-get_or}
 use Rattle.logic.specs.declared.row.SymbolRow.{SymbolRow}
@@ -15,18 +16,15 @@ use Rattle.logic.proofs.Spanned.{words_append}
 use Rattle.inference.specs.Literals.{without}
 use Rattle.inference.specs.Conclusions.{HasLiteral}
 use Rattle.bench.specs.declared.fault.RuleFault.{RuleFault}
+use Rattle.rules.specs.declared.literal.Parts.{Parts}
+use Rattle.rules.specs.Numbered.{Around}
 use Rattle.rules.specs.Pieces.{Allows}
 use Rattle.rules.proofs.Concluded.{allows_like}
 
--- the words before, of and behind literal a of a clause whose words are ws
-pub record Around (ws : List ℕ) (c : Clause) (a : ℕ) (s : Span) : Type 0 where
-  pub has : HasLiteral c a
-  pub before : take s.start ws ≡ clause_words (take (a - 1) c)
-  pub here : between s.start s.end ws ≡ literal_words (literal c a)
-  pub behind : drop s.end ws ≡ clause_words (drop a c)
-
-pub around : (ws : List ℕ) (c : Clause) (a : ℕ) (s : Span) → ws ≡ clause_words c → Lies c a s → Around ws c a s
-around ws c a s f l =
+-- the words around a literal are those before, in and behind its span
+pub around : (ws : List ℕ) (c : Clause) (a : ℕ) (s : Span) → ws ≡ clause_words c → Lies c a s
+    → (p : Parts) → p.before.now ≡ take s.start ws → p.literal.now ≡ between s.start s.end ws → p.behind.now ≡ between s.end (length ws) ws → Around c a p
+around ws c a s f l p before here behind =
     let xs : List ℕ = clause_words (take (a - 1) c) in
     let ys : List ℕ = literal_words (literal c a) in
     let zs : List ℕ = clause_words (drop a c) in
@@ -37,10 +35,18 @@ around ws c a s f l =
     let k : length (xs ++ ys) ≡ s.end = length-append xs ys ∙ (let q : length xs + length ys ≡ s.end = omega (arith, l.ends) in q) in
     record {
       has = (l.counted, l.there);
-      before = ap (take s.start) e ∙ take_at xs (ys ++ zs) s.start n;
-      here = ap (take (s.end - s.start)) d ∙ take_at ys zs (s.end - s.start) m;
-      behind = ap (drop s.end) (e ∙ sym (append_assoc xs ys zs)) ∙ drop_at (xs ++ ys) zs s.end k;
+      before = before ∙ ap (take s.start) e ∙ take_at xs (ys ++ zs) s.start n;
+      here = here ∙ ap (take (s.end - s.start)) d ∙ take_at ys zs (s.end - s.start) m;
+      behind =
+          behind ∙ between_to_end ws s.end (length ws) (le_refl (length ws)) ∙ ap (drop s.end) (e ∙ sym (append_assoc xs ys zs))
+          ∙ drop_at (xs ++ ys) zs s.end k;
     }
+
+-- the three parts are all words
+pub parted_at : (ws : List ℕ) (from to : ℕ) → from ≤ to → ws ≡ take from ws ++ (between from to ws ++ between to (length ws) ws)
+parted_at ws from to h =
+    split_between ws from to h
+    ∙ ap (λ r. take from ws ++ (between from to ws ++ r)) (sym (between_to_end ws to (length ws) (le_refl (length ws))))
 
 -- a literal number without a literal
 pub has_not : (c : Clause) (a : ℕ) → (a ≡ 0) ⊎ (length c < a) → HasLiteral c a → ⊥
@@ -64,7 +70,5 @@ module _ (rows : List SymbolRow) where
       All-append P (take (a - 1) c) (drop a c) (All-take P (a - 1) c (formed rows c g.0)) (All-drop P a c (formed rows c g.0))
 
 -- and its words
-pub without_words : (ws : List ℕ) (c : Clause) (a : ℕ) (s : Span) → Around ws c a s → clause_words (without c a) ≡ take s.start ws ++ between s.end (length ws) ws
-without_words ws c a s r =
-    words_append (take (a - 1) c) (drop a c)
-    ∙ sym (ap₂ ◌++◌ r.before (between_to_end ws s.end (length ws) (le_refl (length ws)) ∙ r.behind))
+pub without_words : (c : Clause) (a : ℕ) (p : Parts) → Around c a p → clause_words (without c a) ≡ p.before.now ++ p.behind.now
+without_words c a p r = words_append (take (a - 1) c) (drop a c) ∙ sym (ap₂ ◌++◌ r.before r.behind)

@@ -2,7 +2,7 @@
 use Rattle.std.proofs.Common.{◌≡◌, ℕ, suc, ◌-◌, Bool, true, false, List, [], ◌++◌, length, take, drop, Some, Ok, Err, Result, Decides, Option, sym, refl, ap, ◌∙◌, subst, ap₂, append_assoc, append-nil, le_refl, arith}
 use Rattle.std.specs.List.{between}
 use Rattle.std.specs.Option.{ok_or}
-use Rattle.std.proofs.lemmas.List.{drop_at}
+use Rattle.std.proofs.lemmas.List.{take_at, drop_at}
 use Rattle.std.proofs.lemmas.Slice.{between_to_end}
 use Rattle.std.proofs.ByRecursion.{All-append, All-take, All-drop, All-set}
 use Rattle.std.proofs.lemmas.Bool.Decides.{Decides-like, not_from_Decides}
@@ -11,7 +11,7 @@ use Rattle.logic.specs.declared.words.Span.{Span}
 use Rattle.logic.specs.Syntax.{Term, Literal, Clause}
 use Rattle.logic.specs.Words.{equality_word, term_words, literal_words, clause_words}
 use Rattle.logic.specs.Lawful.{LawfulTerm, LawfulAtom}
-use Rattle.logic.specs.Literals.{literal, Lies}
+use Rattle.logic.specs.Literals.{literal}
 use Rattle.logic.proofs.Spelt.{Formed, FormedAtom, formed, term_words_injective}
 use Rattle.logic.proofs.Spanned.{words_append}
 use Rattle.bench.specs.declared.question.Question.{Question}
@@ -28,21 +28,27 @@ use Rattle.inference.specs.Conclusions.{IsEquality, replacement}
 use Rattle.inference.specs.Paramod.{paramod}
 use Rattle.rules.specs.Sides.{Headed, Parted}
 use Rattle.rules.specs.Places.{Found, Led}
+use Rattle.rules.specs.declared.literal.Parts.{Parts}
+use Rattle.rules.specs.Numbered.{Around}
 use Rattle.rules.specs.Pieces.{Allows}
 use Rattle.rules.proofs.Concluded.{answered_last, some_found, none_found}
-use Rattle.rules.proofs.Located.{Around, allowed_by_words}
+use Rattle.rules.proofs.Located.{allowed_by_words, without_words}
 use Rattle.rules.proofs.Numbered as numbered
 use Rattle.rules.proofs.Numbered.{Finds}
 use Rattle.inference.proofs.Order.{paramod_answers}
 use Rattle.rules.proofs.Parted.{as_equation, sides_lawful, equality_decides, sides_behind}
 use Rattle.rules.proofs.Replaced.{set_words, formed_put}
 
--- from its place on, a literal stands with the literals behind it
-from_literal : (ws : List ℕ) (c : Clause) (a : ℕ) (s : Span) → ws ≡ clause_words c → Lies c a s
-    → drop s.start ws ≡ literal_words (literal c a) ++ clause_words (drop a c)
-from_literal ws c a s e l =
-    ap (drop s.start) (e ∙ l.words)
-    ∙ drop_at (clause_words (take (a - 1) c)) (literal_words (literal c a) ++ clause_words (drop a c)) s.start (sym l.starts)
+-- words in parts: up to the literal's place, and from there on
+module _ (ws : List ℕ) (p : Parts) (e : ws ≡ p.before.now ++ (p.literal.now ++ p.behind.now)) where
+  up_to_literal : take (length p.before.now) ws ≡ p.before.now
+  up_to_literal = ap (take (length p.before.now)) e ∙ take_at p.before.now (p.literal.now ++ p.behind.now) (length p.before.now) refl
+
+  from_literal : (c : Clause) (a : ℕ) → Around c a p → drop (length p.before.now) ws ≡ literal_words (literal c a) ++ clause_words (drop a c)
+  from_literal c a r =
+      ap (drop (length p.before.now)) e
+      ∙ drop_at p.before.now (p.literal.now ++ p.behind.now) (length p.before.now) refl
+      ∙ ap₂ ◌++◌ r.here r.behind
 
 -- the pieces of a paramodulant, one after another
 regroup : (r s t v o : List ℕ) → (r ++ s) ++ ((t ++ v) ++ o) ≡ r ++ (s ++ (t ++ (v ++ (o ++ []))))
@@ -80,15 +86,15 @@ module _ (q : Question) (s : Asked) (shown : Shows s q) where
   abbrev c : Clause
   c = s.conclusion
 
-  module _ (ip : Span) (fi : Finds q 0 wi (Ok ip)) where
+  module _ (ip : Parts) (fi : Finds q 0 wi (Ok ip)) where
     -- the words of the equality, and where they stand
     abbrev lit : List ℕ
-    lit = between ip.start ip.end wi
+    lit = ip.literal.now
 
     abbrev la : Literal
     la = literal i a
 
-    stands_i : Around wi i a ip
+    stands_i : Around i a ip
     stands_i = numbered.stands q s shown 0 wi shown.first ip fi
 
     lawful_a : LawfulAtom rows la.atom
@@ -100,17 +106,14 @@ module _ (q : Question) (s : Asked) (shown : Shows s q) where
     pub no_second : (g : RuleFault) → Finds q 1 wj (Err g) → answered (Err g) ≡ paramod i j a b p c
     no_second g f = numbered.not_found q s shown 1 wj shown.second g f (paramod i j a b p c) ((paramod_answers i j a b p c).then stands_i.has)
 
-    module _ (jp : Span) (fj : Finds q 1 wj (Ok jp)) where
+    module _ (jp : Parts) (fj : Finds q 1 wj (Ok jp)) where
       abbrev lb : Literal
       lb = literal j b
 
       abbrev rest : List ℕ
       rest = clause_words (drop b j)
 
-      lies_j : Lies j b jp
-      lies_j = numbered.found_at q s shown 1 wj shown.second (Ok jp) fj
-
-      stands_j : Around wj j b jp
+      stands_j : Around j b jp
       stands_j = numbered.stands q s shown 1 wj shown.second jp fj
 
       lawful_b : LawfulAtom rows lb.atom
@@ -121,33 +124,36 @@ module _ (q : Question) (s : Asked) (shown : Shows s q) where
           sym ((((paramod_answers i j a b p c).then stands_i.has).then stands_j.has).otherwise
           (not_from_Decides false (equality_decides rows lit [] la lawful_a spelt false d) refl))
 
-      module _ (d : Decides true (Headed equality_word lit)) where
+      module _ (d : Decides true (Headed equality_word lit)) (whole : wj ≡ jp.before.now ++ (jp.literal.now ++ jp.behind.now)) where
+        abbrev pub from : ℕ
+        from = length jp.before.now
+
         eq : IsEquality la
         eq = (equality_decides rows lit [] la lawful_a spelt true d).0 refl
 
         -- what a search for the term found in the words
         abbrev pub Seeks : Option Span → Type 0
         Seeks r =
-            (l : Literal) (more : List ℕ) → LawfulAtom rows l.atom → drop jp.start wj ≡ literal_words l ++ more
-            → Led rows l q.position.now wj jp.start more r
+            (l : Literal) (more : List ℕ) → LawfulAtom rows l.atom → drop from wj ≡ literal_words l ++ more
+            → Led rows l q.position.now wj from more r
 
-        led : (r : Option Span) → Seeks r → Led rows lb p wj jp.start rest r
+        led : (r : Option Span) → Seeks r → Led rows lb p wj from rest r
         led r f =
-            subst (λ (o : List ℕ). Led rows lb o wj jp.start rest r) shown.position
-            (f lb rest lawful_b (from_literal wj j b jp shown.second lies_j))
+            subst (λ (o : List ℕ). Led rows lb o wj from rest r) shown.position
+            (f lb rest lawful_b (from_literal wj jp whole j b stands_j))
 
         pub no_term : (r : Option Span) → Seeks r → (g : RuleFault) → Err g ≡ ok_or r NoTerm → answered (Err g) ≡ paramod i j a b p c
         no_term r f g e =
             let n = none_found NoTerm r g e in
             ap (λ h. answered (Err h)) n.1
             ∙ sym (((((paramod_answers i j a b p c).then stands_i.has).then stands_j.has).then eq).otherwise
-            (subst (λ (o : Option Span). Led rows lb p wj jp.start rest o) n.0 (led r f)))
+            (subst (λ (o : Option Span). Led rows lb p wj from rest o) n.0 (led r f)))
 
-        pub found_there : (r : Option Span) → Seeks r → (up : Span) → Ok up ≡ ok_or r NoTerm → Found rows lb p wj jp.start rest up
-        found_there r f up e = subst (λ (o : Option Span). Led rows lb p wj jp.start rest o) (some_found NoTerm r up e) (led r f)
+        pub found_there : (r : Option Span) → Seeks r → (up : Span) → Ok up ≡ ok_or r NoTerm → Found rows lb p wj from rest up
+        found_there r f up e = subst (λ (o : Option Span). Led rows lb p wj from rest o) (some_found NoTerm r up e) (led r f)
 
         module _ (right : ℕ) (sides : (t : Term) (more : List ℕ) → LawfulTerm rows t → drop 1 lit ≡ term_words t ++ more → Parted lit right (term_words t) more)
-            (up : Span) (found : Found rows lb p wj jp.start rest up) where
+            (up : Span) (found : Found rows lb p wj from rest up) where
           both_lawful : LawfulTerm rows eq.s × LawfulTerm rows eq.t
           both_lawful = sides_lawful rows la (as_equation la eq) lawful_a
 
@@ -175,7 +181,7 @@ module _ (q : Question) (s : Asked) (shown : Shows s q) where
           new = between right (length lit) lit
 
           abbrev words : List ℕ
-          words = take ip.start wi ++ (between ip.end (length wi) wi ++ (take up.start wj ++ (new ++ (between up.end (length wj) wj ++ []))))
+          words = ip.before.now ++ (ip.behind.now ++ (take up.start wj ++ (new ++ (between up.end (length wj) wj ++ []))))
 
           abbrev described : Clause
           described = replacement i j a b p eq.t
@@ -183,24 +189,19 @@ module _ (q : Question) (s : Asked) (shown : Shows s q) where
           new_is : new ≡ term_words eq.t
           new_is = between_to_end lit right (length lit) (le_refl (length lit)) ∙ parts.right
 
-          left_words : clause_words (without i a) ≡ take ip.start wi ++ between ip.end (length wi) wi
-          left_words =
-              words_append (take (a - 1) i) (drop a i)
-              ∙ ap₂ ◌++◌ (sym stands_i.before) (sym (between_to_end wi ip.end (length wi) (le_refl (length wi)) ∙ stands_i.behind))
-
           right_words : clause_words (with_literal j b (put lb p eq.t)) ≡ (take up.start wj ++ new) ++ between up.end (length wj) wj
           right_words =
               let z : suc (b - 1) ≡ b = omega (arith, stands_j.has.0) in
               set_words j (b - 1) (put lb p eq.t) (omega (arith, stands_j.has.0, stands_j.has.1))
-              ∙ ap₂ (λ xs n. xs ++ (literal_words (put lb p eq.t) ++ clause_words (drop n j))) (sym stands_j.before) z
+              ∙ ap₂ (λ xs n. xs ++ (literal_words (put lb p eq.t) ++ clause_words (drop n j))) (sym (up_to_literal wj jp whole ∙ stands_j.before)) z
               ∙ sym (found.replaced eq.t)
               ∙ ap₂ (λ xs ys. take up.start wj ++ (xs ++ ys)) (sym new_is) (sym (between_to_end wj up.end (length wj) (le_refl (length wj))))
               ∙ sym (append_assoc (take up.start wj) new (between up.end (length wj) wj))
 
           words_are : clause_words described ≡ words
           words_are =
-              words_append (without i a) (with_literal j b (put lb p eq.t)) ∙ ap₂ ◌++◌ left_words right_words
-              ∙ regroup (take ip.start wi) (between ip.end (length wi) wi) (take up.start wj) new (between up.end (length wj) wj)
+              words_append (without i a) (with_literal j b (put lb p eq.t)) ∙ ap₂ ◌++◌ (without_words i a ip stands_i) right_words
+              ∙ regroup ip.before.now ip.behind.now (take up.start wj) new (between up.end (length wj) wj)
 
           described_formed : Formed rows described
           described_formed =

@@ -1,10 +1,8 @@
 -- What `resolve` answers, from the tests on words.
-use Rattle.std.proofs.Common.{◌≡◌, ℕ, Bool, true, false, List, [], ◌++◌, length, take, Ok, Err, Result, Decides, sym, refl, ◌∙◌, ap₂, append_assoc, append-nil}
-use Rattle.std.specs.List.{between}
+use Rattle.std.proofs.Common.{◌≡◌, ℕ, Bool, true, false, List, [], ◌++◌, Ok, Err, Result, Decides, sym, refl, ◌∙◌, ap₂, append_assoc, append-nil}
 use Rattle.std.proofs.lemmas.Bool.Decides.{not_from_Decides}
 use Rattle.std.proofs.ByRecursion.{All-append}
 use Rattle.logic.specs.declared.row.SymbolRow.{SymbolRow}
-use Rattle.logic.specs.declared.words.Span.{Span}
 use Rattle.logic.specs.Syntax.{Literal, Clause}
 use Rattle.logic.specs.Words.{literal_words, clause_words}
 use Rattle.logic.specs.Lawful.{LawfulAtom}
@@ -20,11 +18,13 @@ use Rattle.bench.specs.Questions.{Shows}
 use Rattle.bench.proofs.Shown.{premise_lawful}
 use Rattle.inference.specs.Literals.{without}
 use Rattle.inference.specs.Conclusions.{Opposed, resolvent}
+use Rattle.rules.specs.declared.literal.Parts.{Parts}
+use Rattle.rules.specs.Numbered.{Around}
 use Rattle.rules.specs.Pieces.{Allows}
 use Rattle.rules.specs.Six.{resolve_rule}
 use Rattle.inference.proofs.Order.{resolve_answers}
 use Rattle.rules.proofs.Concluded.{answered_last}
-use Rattle.rules.proofs.Located.{Around, without_formed, allowed_by_words, without_words}
+use Rattle.rules.proofs.Located.{without_formed, allowed_by_words, without_words}
 use Rattle.rules.proofs.Numbered as numbered
 use Rattle.rules.proofs.Numbered.{Finds}
 
@@ -41,23 +41,23 @@ module _ (q : Question) (s : Asked) (h : Shows s q) where
   abbrev b : ℕ
   b = literal_number s 1
 
-  pub none_second : (x : Span) → Finds q 0 q.first.now (Ok x) → (g : RuleFault) → Finds q 1 q.second.now (Err g) → answered (Err g) ≡ resolve_rule.answers s
+  pub none_second : (x : Parts) → Finds q 0 q.first.now (Ok x) → (g : RuleFault) → Finds q 1 q.second.now (Err g) → answered (Err g) ≡ resolve_rule.answers s
   none_second x f g k =
       numbered.not_found q s h 1 q.second.now h.second g k (resolve_rule.answers s)
       ((resolve_answers i j a b s.conclusion).then (numbered.stands q s h 0 q.first.now h.first x f).has)
 
-  module _ (x y : Span) (f : Finds q 0 q.first.now (Ok x)) (g : Finds q 1 q.second.now (Ok y)) where
-    ai : Around q.first.now i a x
+  module _ (x y : Parts) (f : Finds q 0 q.first.now (Ok x)) (g : Finds q 1 q.second.now (Ok y)) where
+    ai : Around i a x
     ai = numbered.stands q s h 0 q.first.now h.first x f
 
-    aj : Around q.second.now j b y
+    aj : Around j b y
     aj = numbered.stands q s h 1 q.second.now h.second y g
 
     -- the test on the words of the two literals
     abbrev pub OpposedTest : Bool → Type 0
     OpposedTest r =
-        (rows : List SymbolRow) (l m : Literal) → LawfulAtom rows l.atom → LawfulAtom rows m.atom → between x.start x.end q.first.now ≡ literal_words l
-        → between y.start y.end q.second.now ≡ literal_words m → Decides r (Opposed l m)
+        (rows : List SymbolRow) (l m : Literal) → LawfulAtom rows l.atom → LawfulAtom rows m.atom → x.literal.now ≡ literal_words l
+        → y.literal.now ≡ literal_words m → Decides r (Opposed l m)
 
     opposed_literals : (r : Bool) → OpposedTest r → Decides r (Opposed (literal i a) (literal j b))
     opposed_literals r t =
@@ -72,11 +72,11 @@ module _ (q : Question) (s : Asked) (h : Shows s q) where
     -- the pieces of the resolvent
     abbrev pub pieces : List ℕ
     pieces =
-        take x.start q.first.now ++ (between x.end (length q.first.now) q.first.now ++ (take y.start q.second.now ++ (between y.end (length q.second.now) q.second.now ++ [])))
+        x.before.now ++ (x.behind.now ++ (y.before.now ++ (y.behind.now ++ [])))
 
     words_are : clause_words (resolvent i j a b) ≡ pieces
     words_are =
-        words_append (without i a) (without j b) ∙ ap₂ ◌++◌ (without_words _ i a x ai) (without_words _ j b y aj)
+        words_append (without i a) (without j b) ∙ ap₂ ◌++◌ (without_words i a x ai) (without_words j b y aj)
         ∙ simp (append_assoc, append-nil)
 
     -- they are, and the conclusion is compared

@@ -3,11 +3,10 @@ ghost use Rattle.std.specs.Prelude.{refl};
 ghost use Rattle.rules.specs.Six.{flip_rule};
 ghost use Rattle.rules.specs.Laws.{flip_keeps};
 
-use crate::literal::numbered;
+use crate::literal::{Parts, numbered};
 use crate::pieces::conclude;
 use crate::sides::{is_equation, right_side};
 use bench::{Inference, Question, Rule, RuleFault, Shape};
-use logic::Span;
 
 /// The inference rule `flip`.
 #[derive(Clone, Copy)]
@@ -38,15 +37,16 @@ impl Rule for Flip {
     }
 
     fn ask(&self, question: &Question<'_>) -> Result<(), RuleFault> {
-        let Span { start, end } = numbered(question.first, question.rows, question.literals[0])?;
-        let literal = &question.first[start..end];
+        let Parts {
+            before,
+            literal,
+            behind,
+        } = numbered(question.first, question.rows, question.literals[0])?;
         if !is_equation(literal) {
             return Err(RuleFault::NoEquality);
         }
         let right = right_side(literal, question.rows);
-        let before = &question.first[..start];
         let head = &literal[..1];
-        let behind = &question.first[end..];
         let pieces = [before, head, &literal[right..], &literal[1..right], behind];
         conclude(&pieces, question.conclusion)
     }

@@ -40,25 +40,22 @@ impl Rule for Paramod {
 
     fn ask(&self, question: &Question<'_>) -> Result<(), RuleFault> {
         let rows = question.rows;
-        let first = question.first;
         let second = question.second;
-        let a = numbered(first, rows, question.literals[0])?;
-        let b = numbered(second, rows, question.literals[1])?;
-        let equality = &first[a.start..a.end];
+        let from = numbered(question.first, rows, question.literals[0])?;
+        let into = numbered(second, rows, question.literals[1])?;
+        let equality = from.literal;
         if !is_equality(equality) {
             return Err(RuleFault::NoEquality);
         }
-        let found = term_span(second, rows, b.start, question.position);
+        let found = term_span(second, rows, into.before.len(), question.position);
         let Span { start, end } = found.ok_or(RuleFault::NoTerm)?;
         let right = right_side(equality, rows);
         if !same(&second[start..end], &equality[1..right]) {
             return Err(RuleFault::OtherTerm);
         }
-        let before = &first[..a.start];
-        let behind = &first[a.end..];
         let pieces = [
-            before,
-            behind,
+            from.before,
+            from.behind,
             &second[..start],
             &equality[right..],
             &second[end..],

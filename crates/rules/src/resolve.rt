@@ -60,19 +60,12 @@ impl Rule for Resolve {
 
     fn ask(&self, question: &Question<'_>) -> Result<(), RuleFault> {
         let rows = question.rows;
-        let first = question.first;
-        let second = question.second;
-        let a = numbered(first, rows, question.literals[0])?;
-        let b = numbered(second, rows, question.literals[1])?;
-        if !opposed(&first[a.start..a.end], &second[b.start..b.end]) {
+        let one = numbered(question.first, rows, question.literals[0])?;
+        let other = numbered(question.second, rows, question.literals[1])?;
+        if !opposed(one.literal, other.literal) {
             return Err(RuleFault::NotOpposed);
         }
-        let pieces = [
-            &first[..a.start],
-            &first[a.end..],
-            &second[..b.start],
-            &second[b.end..],
-        ];
+        let pieces = [one.before, one.behind, other.before, other.behind];
         conclude(&pieces, question.conclusion)
     }
 }

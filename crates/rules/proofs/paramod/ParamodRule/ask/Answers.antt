@@ -3,18 +3,18 @@ use Rattle.rules.proofs.Concluded.{passed_on}
 use Rattle.rules.proofs.Paramodulated.{no_second, no_equality, no_term, found_there, other_term, concluded}
 use Rattle.rules.proofs.paramod.ParamodRule.ask.Goals as goal
 
-pub returns-in_err-b : goal.returns-in_err-b
-returns-in_err-b c =
+pub returns-in_err-into : goal.returns-in_err-into
+returns-in_err-into c =
     record {
       means = λ s h.
-          passed_on _ _ _ (search rules) (no_second c.args.question.now s h _ c.in_ok-a.ensures.literal _ c.in_err-b.ensures.literal);
+          passed_on _ _ _ (search rules) (no_second c.args.question.now s h _ c.in_ok-from.ensures.literal _ c.in_err-into.ensures.literal);
     }
 
 pub returns-then-not-is_equality : goal.returns-then-not-is_equality
 returns-then-not-is_equality c =
     record {
       means = λ s h.
-          no_equality c.args.question.now s h _ c.in_ok-a.ensures.literal _ c.in_ok-b.ensures.literal c.if-not-is_equality.ensures;
+          no_equality c.args.question.now s h _ c.in_ok-from.ensures.literal _ c.in_ok-into.ensures.literal c.if-not-is_equality.ensures;
     }
 
 pub returns-in_err-start : goal.returns-in_err-start
@@ -22,7 +22,7 @@ returns-in_err-start c =
     record {
       means = λ s h.
           passed_on _ _ _ (search rules)
-          (no_term c.args.question.now s h _ c.in_ok-a.ensures.literal _ c.in_ok-b.ensures.literal c.if-not-is_equality.ensures
+          (no_term c.args.question.now s h _ c.in_ok-from.ensures.literal _ c.in_ok-into.ensures.literal c.if-not-is_equality.ensures c.in_ok-into.ensures.whole
           c.term_span-found.result c.term_span-found.ensures.leads _ c.in_err-start.ensures.value);
     }
 
@@ -31,10 +31,10 @@ returns-then-not-same c =
     record {
       means = λ s h.
           let found =
-          found_there c.args.question.now s h _ c.in_ok-a.ensures.literal _ c.in_ok-b.ensures.literal c.if-not-is_equality.ensures
+          found_there c.args.question.now s h _ c.in_ok-from.ensures.literal _ c.in_ok-into.ensures.literal c.if-not-is_equality.ensures c.in_ok-into.ensures.whole
           c.term_span-found.result c.term_span-found.ensures.leads _ c.in_ok-start.ensures.value in
-          other_term c.args.question.now s h _ c.in_ok-a.ensures.literal _ c.in_ok-b.ensures.literal
-          c.if-not-is_equality.ensures c.right_side-right.result c.right_side-right.ensures.sides _ found c.if-not-same.ensures.words;
+          other_term c.args.question.now s h _ c.in_ok-from.ensures.literal _ c.in_ok-into.ensures.literal
+          c.if-not-is_equality.ensures c.in_ok-into.ensures.whole c.right_side-right.result c.right_side-right.ensures.sides _ found c.if-not-same.ensures.words;
     }
 
 pub returns : goal.returns
@@ -42,9 +42,9 @@ returns c =
     record {
       means = λ s h.
           let found =
-          found_there c.args.question.now s h _ c.in_ok-a.ensures.literal _ c.in_ok-b.ensures.literal c.if-not-is_equality.ensures
+          found_there c.args.question.now s h _ c.in_ok-from.ensures.literal _ c.in_ok-into.ensures.literal c.if-not-is_equality.ensures c.in_ok-into.ensures.whole
           c.term_span-found.result c.term_span-found.ensures.leads _ c.in_ok-start.ensures.value in
-          concluded c.args.question.now s h _ c.in_ok-a.ensures.literal _ c.in_ok-b.ensures.literal
-          c.if-not-is_equality.ensures c.right_side-right.result c.right_side-right.ensures.sides _ found c.if-not-same.ensures.words
+          concluded c.args.question.now s h _ c.in_ok-from.ensures.literal _ c.in_ok-into.ensures.literal
+          c.if-not-is_equality.ensures c.in_ok-into.ensures.whole c.right_side-right.result c.right_side-right.ensures.sides _ found c.if-not-same.ensures.words
           c.conclude.result c.conclude.ensures;
     }
