@@ -11,7 +11,6 @@ pub mod Paramodulated
 pub mod Opposing
 pub mod ResolveAsked
 pub mod Imaged
-pub mod Seen
 pub mod HeldBindings
 pub mod InstanceWords
 pub mod InstantiateWords

@@ -29,21 +29,13 @@ pub(crate) fn bound_words(bindings: &Bindings, k: usize) -> &[u32]
 }
 
 /// Whether some variable is bound twice.
-// An array, since checking allocates nothing; by index, since with get_mut the proof did not close (tried).
 pub(crate) fn bound_twice(variables: &[u32]) -> bool
     ensures { Decides result (Repeats variables.now) }
 {
-    let mut seen = [false; VARIABLES as usize];
-    for variable in variables {
-        if *variable < VARIABLES {
-            let v = *variable as usize;
-            if seen[v] {
-                return true;
-            }
-            seen[v] = true;
-        }
-    }
-    false
+    variables
+        .iter()
+        .enumerate()
+        .any(|(k, v)| *v < VARIABLES && variables[..k].contains(v))
 }
 
 /// The number of the binding that binds the word, if it is a variable that is bound.
