@@ -71,8 +71,7 @@ module _ (q : Question) (s : Asked) (h : Shows s q) where
 
     -- the pieces of the resolvent
     abbrev pub pieces : List ℕ
-    pieces =
-        x.before.now ++ (x.behind.now ++ (y.before.now ++ (y.behind.now ++ [])))
+    pieces = x.before.now ++ (x.behind.now ++ (y.before.now ++ (y.behind.now ++ [])))
 
     words_are : clause_words (resolvent i j a b) ≡ pieces
     words_are =
