@@ -11,7 +11,7 @@ rt_lines() { grep -rnE "$1" crates/*/src; }
 rt_lines '^(pub(\(crate\))? )?enum ' | show '1 enums'
 grep -rnE '^ *(pub(\(crate\))? )?fn ' crates/*/src | grep -E '\) -> u(8|32) ?\{?$' | show '1 functions whose result is a number'
 rt_lines 'None => (return )?None|Err\(.*\) => (return )?Err|let Some\(.*else \{|let Some.*= .* else' | show '1 failures handed on without ?'
-rt_lines '[(,] *due: bool|usize\) *,? *usize' | show '1 a flag beside a value'
+rt_lines '\b(due|wanted|found|given): bool' | show '1 flags as parameters'
 grep -rhoE '\b(fn|struct|enum|trait|const) [A-Za-z_]+' crates/*/src | sort | uniq -c | awk '$1 > 1' | show '2 names that are declared more than once'
 rt_lines '\b(while|loop|for)\b .*\{$' | grep -vE '\bimpl\b' | show '3 loops'
 rt_lines 'fn (is|same|eq|cmp|clone|number|place|first|front|tail|from|to_[a-z]+)\b|matches!|\bas u(8|32|64)\b' | show '4 equality, conversion and printing'
