@@ -1,10 +1,9 @@
 //! Justifications.
 ghost use Rattle.std.specs.Prelude.{◌≡◌, OnOk};
 ghost use Rattle.reading.specs.States.{◌then◌};
-ghost use Rattle.reading.specs.Readers.{Keeps, after_bindings};
-ghost use Rattle.reading.specs.Bindings.{InOrder};
+ghost use Rattle.reading.specs.Readers.{Keeps};
 ghost use Rattle.lines.specs.Positions.{StaysInLine};
-ghost use Rattle.lines.specs.Justifications.{few_read, few_at, after_keyword, keyword_at, after_cited, cited_at, numbers_and_end, bindings_part, Usable, after_justification, justification_at};
+ghost use Rattle.lines.specs.Justifications.{few_read, few_at, after_keyword, keyword_at, after_cited, cited_at, numbers_and_end, Usable, after_justification, justification_at};
 
 use crate::number::read_number;
 use crate::position::{POSITION_NUMBERS, read_position};

@@ -1,5 +1,5 @@
 //! Positions.
-ghost use Rattle.std.specs.Prelude.{◌≡◌, ◌+◌, ◌<◌, ◌≤◌, IfOk, IfSome, [], ◌≢◌, ◌==◌};
+ghost use Rattle.std.specs.Prelude.{◌≡◌, ◌≤◌, IfOk, IfSome, ◌≢◌, ◌==◌};
 ghost use Rattle.lines.specs.Limits.{position_numbers};
 ghost use Rattle.reading.specs.Cursors.{Onward};
 ghost use Rattle.lines.specs.Positions.{turned_to, position_mark, position_read, position_at, StaysInLine};

@@ -38,7 +38,6 @@ impl Bindings {
 }
 
 impl Reader<'_, '_> {
-    ghost use Rattle.std.specs.Prelude.{length};
     ghost use Rattle.reading.specs.declared.purpose.Purpose.TheVariants.{Binding};
     ghost use Rattle.reading.specs.Readers.{seen, Goes, Keeps, after_binding, after_bindings};
 

@@ -1,5 +1,5 @@
 //! Clauses.
-ghost use Rattle.std.specs.Prelude.{◌≡◌, ◌+◌, ◌≤◌, length, IfOk, OnOk};
+ghost use Rattle.std.specs.Prelude.{◌≡◌, ◌+◌, ◌≤◌, IfOk};
 ghost use Rattle.logic.specs.Limits.{literals as most_literals};
 ghost use Rattle.logic.specs.Words.{negation};
 ghost use Rattle.reading.specs.Clauses.{sides as sides_of, atom as atom_of, negated as negated_of, literal as literal_of, literal_list, clause_from};

@@ -1,7 +1,7 @@
 //! Symbols as their names are met.
 ghost use Rattle.std.specs.Prelude.{◌≡◌, ◌<◌, ◌≤◌, length, take, IfSome, IfOk, OnErr};
 ghost use Rattle.logic.specs.Directory.{place_of_name};
-ghost use Rattle.logic.specs.Limits.{arguments as most_arguments, name_bytes, symbols as most_symbols};
+ghost use Rattle.logic.specs.Limits.{arguments as most_arguments, name_bytes};
 ghost use Rattle.reading.specs.States.{count_checked};
 ghost use Rattle.reading.specs.Entering.{met, new_row, entered, meet as meet_of, settled, settle as settle_of};
 

@@ -1,5 +1,5 @@
 //! Terms.
-ghost use Rattle.std.specs.Prelude.{◌≡◌, ◌+◌, ◌<◌, ◌≤◌, false, IfOk, OnOk, Ok, ◌==◌};
+ghost use Rattle.std.specs.Prelude.{◌≡◌, ◌+◌, ◌<◌, ◌≤◌, IfOk, OnOk, Ok, ◌==◌};
 ghost use Rattle.logic.specs.Limits.{arguments as most_arguments};
 ghost use Rattle.logic.specs.Words.{symbol_word, negation};
 ghost use Rattle.reading.specs.States.{full as full_of};
