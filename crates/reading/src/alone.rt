@@ -1,4 +1,5 @@
 //! A clause or a list of bindings read by itself, over whatever count of symbols.
+// The rows and their count stay two parameters, for the reason given at `read_rule` of `lines`.
 ghost use Rattle.std.specs.Prelude.{◌≡◌, ◌≤◌, length, IfOk, OnOk};
 ghost use Rattle.logic.specs.Limits.{symbols as most_symbols};
 ghost use Rattle.reading.specs.Clauses.{clause_from};

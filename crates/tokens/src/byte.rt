@@ -32,9 +32,8 @@ impl Class {
 pub fn past(line: &[u8], from: usize, class: Class) -> usize
     ensures { result ≡ past_of class line.now from }
 {
-    from + line
-        .iter()
-        .skip(from)
-        .take_while(|byte| class.has(**byte))
-        .count()
+    match line.get(from..) {
+        Some(rest) => from + rest.iter().take_while(|byte| class.has(**byte)).count(),
+        None => from,
+    }
 }
