@@ -5,7 +5,7 @@ use reading::Bindings;
 
 /// A step as it is put to an inference rule: the rows of the counted symbols, the words of the premises (none where there are fewer), the
 /// literal numbers (0 where there are fewer), the position, the bindings, and the words of the written conclusion.
-// Plain numbers with 0 for none: how many count is said by the shape of the rule that is asked.
+// An array of fixed size, since checking allocates nothing; plain numbers with 0 for none: how many count is said by the shape of the rule that is asked.
 #[derive(Clone, Copy)]
 pub struct Question<'a> {
     pub rows: &'a [SymbolRow],

@@ -18,6 +18,7 @@ pub trait Inference {
 
 /// An inference rule: constants say how its justification is read, `ask` whether it allows a conclusion.
 pub trait Rule: Inference {
+    // Each rule gives these, the ghost twin of the second, and `word`: they are what is its own, and no default could know it.
     const KEYWORD: &'static [u8];
 
     const JUSTIFICATION: Shape;

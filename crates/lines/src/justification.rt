@@ -48,6 +48,7 @@ fn read_few(at: &mut Cursor<'_>, wanted: u32) -> Result<[u32; FEW], Fault>
     ensures on { StaysInLine at.old at.new }
 {
     let mut numbers = [0; FEW];
+    // Written out: a loop over `iter_mut().take(..)` is no shorter, and would need an invariant over two numbers.
     if wanted > 0 {
         numbers[0] = read_number(at)?;
     }

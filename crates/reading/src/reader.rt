@@ -10,6 +10,7 @@ use tokens::Fault;
 
 /// What is read, the place in the line, how many words there are so far, and the symbols: how many are counted, and the store that their
 /// rows lie in.
+// The store of words is a parameter and no field: a step line has two, one for its clause and one for its bindings.
 #[derive(Drop)]
 pub struct Reader<'a, 's> {
     pub purpose: Purpose,

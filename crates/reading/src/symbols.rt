@@ -39,6 +39,7 @@ fn new_row(kind: Kind, name: &[u8]) -> SymbolRow
     }
 }
 
+// That a symbol is counted is said in each contract: it relates an answer to the reader, which no invariant of the reader can do.
 impl Reader<'_, '_> {
     ghost use Rattle.reading.specs.Readers.{Enters};
 

@@ -32,6 +32,7 @@ fn image<'a>(word: &'a u32, bindings: &'a Bindings) -> &'a [u32]
     }
 }
 
+// A loop of its own and no call of `conclude`, which takes a slice of pieces: nothing is allocated to hold one for each word.
 /// Allows a conclusion whose words are what those of the premise become, one after another.
 fn conclude_instance(
     premise: &[u32],
