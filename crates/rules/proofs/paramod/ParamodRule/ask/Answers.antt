@@ -1,14 +1,7 @@
 use Rattle.std.proofs.Common.{rules}
 use Rattle.rules.proofs.Concluded.{passed_on}
-use Rattle.rules.proofs.Paramodulated.{no_second, no_equality, no_term, found_there, other_term, concluded}
+use Rattle.rules.proofs.Paramodulated.{no_equality, no_term, found_there, other_term, concluded}
 use Rattle.rules.proofs.paramod.ParamodRule.ask.Goals as goal
-
-pub returns-in_err-into : goal.returns-in_err-into
-returns-in_err-into c =
-    record {
-      means = λ s h.
-          passed_on _ _ _ (search rules) (no_second c.args.question.now s h _ c.in_ok-from.ensures.literal _ c.in_err-into.ensures.literal);
-    }
 
 pub returns-then-not-is_equality : goal.returns-then-not-is_equality
 returns-then-not-is_equality c =
