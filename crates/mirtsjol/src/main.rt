@@ -7,6 +7,9 @@ mod refusal;
 mod session;
 mod text;
 
+ghost use Rattle.std.specs.Prelude.{◌≡◌, codes};
+ghost use Rattle.std.specs.Str.{bytes_eq};
+
 use lines_of::Lines;
 use session::Session;
 use std::io::{BufWriter, Read, Write};
@@ -48,13 +51,20 @@ fn read_book(rt: &HostRuntime, file: Option<String>) -> anyhow::Result<()> {
     answer_lines(rt, bytes.as_slice())
 }
 
+/// Whether the word is the command `read`.
+fn is_read(word: &str) -> bool
+    ensures { result ≡ bytes_eq word.now (codes "read") }
+{
+    word == "read"
+}
+
 /// Runs the command that the arguments ask for; another is a failure, with the usage on standard error.
 fn run(rt: &HostRuntime) -> anyhow::Result<ExitCode> {
     let mut args = env::args(rt)?;
     let _program = args.next();
-    let is_read = args.next().is_some_and(|word| word.as_str() == "read");
+    let asked = args.next().is_some_and(|word| is_read(word.as_str()));
     let file = args.next();
-    if is_read && args.next().is_none() {
+    if asked && args.next().is_none() {
         read_book(rt, file)?;
         return Ok(ExitCode::SUCCESS);
     }
