@@ -99,16 +99,18 @@ pub fn read_justification<'a, S: Shapes>(
     reader.at.open()?;
     let cited = read_cited(&mut reader.at, bench)?;
     let shape = cited.keyword.shape;
-    justification.steps = 0;
+    let mut steps = 0;
     if shape.position {
-        justification.steps = read_position(&mut reader.at, &mut justification.position)?;
+        steps = read_position(&mut reader.at, &mut justification.position)?;
     }
-    justification.bindings.count = 0;
     if shape.bindings {
         reader.bindings(&mut justification.bindings)?;
+    } else {
+        justification.bindings.count = 0;
     }
     reader.at.close()?;
     justification.premises = cited.premises;
     justification.literals = cited.literals;
+    justification.steps = steps;
     Ok(cited.keyword)
 }
