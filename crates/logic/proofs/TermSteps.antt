@@ -1,5 +1,5 @@
 -- One step of reading terms.
-use Rattle.std.proofs.Common.{◌≡◌, ℕ, ◌+◌, ◌-◌, ◌<◌, ◌≤◌, ◌⊎◌, List, [], ◌∷◌, ◌++◌, length, get_or, drop, Bor, Some, None, Option, sym, refl, ap, ◌∙◌, subst, inl, inr, append_assoc, arith, length-append}
+use Rattle.std.proofs.Common.{◌≡◌, ℕ, ◌+◌, ◌-◌, ◌<◌, ◌≤◌, ◌⊎◌, List, [], ◌∷◌, ◌++◌, length, get_or, drop, Bor, None, Option, sym, refl, ap, ◌∙◌, subst, inl, inr, append_assoc, arith, length-append}
 use Rattle.logic.specs.declared.row.SymbolRow.{SymbolRow}
 use Rattle.logic.specs.declared.row.Kind.{Kind}
 use Rattle.logic.specs.declared.row.Kind.TheVariants.{Function}
@@ -15,6 +15,26 @@ module _ (rows : List SymbolRow) where
   pub unique : (d n : ℕ) (ws xs ys : List ℕ) → Reads rows d n ws xs → Reads rows d n ws ys → xs ≡ ys
   unique d n ws xs ys r s =
       (terms_prefix_unique rows r.terms s.terms xs ys r.lawful s.lawful (r.counted ∙ sym s.counted) (sym r.spelt ∙ s.spelt)).1
+
+  -- behind n terms of the words lies what lies behind m terms of xs
+  pub record Goes (d n : ℕ) (ws : List ℕ) (m : ℕ) (xs : List ℕ) : Type 0 where
+    pub shorter : length xs ≤ length ws
+    pub onto : (rest : List ℕ) → Reads rows d m xs rest → Reads rows d n ws rest
+    pub from : (rest : List ℕ) → Reads rows d n ws rest → Reads rows d m xs rest
+
+  pub goes_nowhere : (d n m : ℕ) (ws : List ℕ) → n ≡ m → Goes d n ws m ws
+  goes_nowhere d n m ws e = record {
+    shorter = omega arith;
+    onto = λ rest r. subst (λ (k : ℕ). Reads rows d k ws rest) (sym e) r;
+    from = λ rest r. subst (λ (k : ℕ). Reads rows d k ws rest) e r;
+  }
+
+  pub goes_on : (d n m k : ℕ) (ws xs ys : List ℕ) → k ≡ m - 1 → Goes d n ws m xs → Goes d m xs (m - 1) ys → Goes d n ws k ys
+  goes_on d n m k ws xs ys e g h = record {
+    shorter = omega (arith, g.shorter, h.shorter);
+    onto = λ rest r. g.onto rest (h.onto rest (subst (λ (i : ℕ). Reads rows d i ys rest) e r));
+    from = λ rest r. subst (λ (i : ℕ). Reads rows d i ys rest) (sym e) (h.from rest (g.from rest r));
+  }
 
   -- ── Nothing due, or nothing left ──
 
@@ -119,9 +139,12 @@ module _ (rows : List SymbolRow) where
     from_here : (rest : List ℕ) → Reads rows d n ws rest → ((w < 64) × Reads rows d (n - 1) others rest) ⊎ AfterSymbol d n w others rest
     from_here rest r = first_word d n w others rest some_due (subst (λ (xs : List ℕ). Reads rows d n xs rest) is r)
 
-    pub leaves_var : (r : Option (Bor (List ℕ))) → 0 < d → w < 64 → Leaves rows d (n - 1) others r → Leaves rows d n ws r
-    leaves_var None k l h = λ rest r. elim (from_here rest r) [ inl q ↦ h rest q.1 | inr q ↦ omega (arith, q.low) ]
-    leaves_var (Some x) k l h = (omega (arith, h.0, ap length is), rw is (with_var d n w others x.now some_due k l h.1))
+    pub goes_var : 0 < d → w < 64 → Goes d n ws (n - 1) others
+    goes_var k l = record {
+      shorter = omega (arith, ap length is);
+      onto = λ rest r. rw is (with_var d n w others rest some_due k l r);
+      from = λ rest r. elim (from_here rest r) [ inl q ↦ q.1 | inr q ↦ absurd (omega (arith, q.low)) ];
+    }
 
     pub leaves_between : 64 ≤ w → w < 256 → (rest : List ℕ) → Reads rows d n ws rest → ⊥
     leaves_between l m rest r = elim (from_here rest r) [ inl q ↦ omega (arith, q.0) | inr q ↦ omega (arith, q.low) ]
@@ -137,20 +160,19 @@ module _ (rows : List SymbolRow) where
       | inr q ↦ h q.mid (subst (λ (k : ℕ). Reads rows (d - 1) k others q.mid) (one_arity _ _ _ _ q.symbol s) q.inner)
     ]
 
-    pub leaves_symbol : (a : ℕ) (mid : List ℕ) (r : Option (Bor (List ℕ))) → 0 < d → 256 ≤ w → Symbol rows (w - 256) Function a
-        → length mid ≤ length others → Reads rows (d - 1) a others mid
-        → Leaves rows d (n - 1) mid r → Leaves rows d n ws r
-    leaves_symbol a mid None p l s q g h = λ rest r. elim (from_here rest r) [
-      | inl x ↦ omega (arith, x.0)
-      | inr x ↦ h rest (subst (λ (xs : List ℕ). Reads rows d (n - 1) xs rest)
-          (unique (d - 1) a others x.mid mid
-          (subst (λ (m : ℕ). Reads rows (d - 1) m others x.mid) (one_arity _ _ _ _ x.symbol s) x.inner) g) x.others)
-    ]
-    leaves_symbol a mid (Some x) p l s q g h = (
-      omega (arith, h.0, ap length is),
-      rw is (with_symbol d n w others x.now some_due p
-          (record { low = l; arity = a; symbol = s; mid = mid; inner = g; others = h.1 })),
-    )
+    pub goes_symbol : (a : ℕ) (mid : List ℕ) → 0 < d → 256 ≤ w → Symbol rows (w - 256) Function a
+        → length mid ≤ length others → Reads rows (d - 1) a others mid → Goes d n ws (n - 1) mid
+    goes_symbol a mid p l s q g = record {
+      shorter = omega (arith, ap length is);
+      onto = λ rest r. rw is (with_symbol d n w others rest some_due p
+          (record { low = l; arity = a; symbol = s; mid = mid; inner = g; others = r }));
+      from = λ rest r. elim (from_here rest r) [
+        | inl x ↦ absurd (omega (arith, x.0))
+        | inr x ↦ subst (λ (xs : List ℕ). Reads rows d (n - 1) xs rest)
+            (unique (d - 1) a others x.mid mid
+            (subst (λ (m : ℕ). Reads rows (d - 1) m others x.mid) (one_arity _ _ _ _ x.symbol s) x.inner) g) x.others
+      ];
+    }
 
   -- where no words begin with such terms, nothing is left behind them
   pub leaves_none : (d n : ℕ) (ws : List ℕ) (r : Option (Bor (List ℕ))) → r ≡ None → ((rest : List ℕ) → Reads rows d n ws rest → ⊥) → Leaves rows d n ws r

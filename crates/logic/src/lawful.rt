@@ -25,22 +25,22 @@ fn arity_of(rows: &[SymbolRow], s: usize, kind: Kind) -> Option<usize>
 fn lawful_rest<'a>(words: &'a [u32], rows: &[SymbolRow], n: usize, d: usize) -> Option<&'a [u32]>
     ensures { Leaves rows.now d n words.now result }
 {
-    if n == 0 {
-        return Some(words);
+    let mut rest = words;
+    for _ in 0..n {
+        if d == 0 {
+            return None;
+        }
+        let (word, others) = rest.split_first()?;
+        rest = if *word < VARIABLES {
+            others
+        } else if *word < SYMBOL_WORD {
+            return None;
+        } else {
+            let arity = arity_of(rows, (*word - SYMBOL_WORD) as usize, Kind::Function)?;
+            lawful_rest(others, rows, arity, d - 1)?
+        };
     }
-    let (word, rest) = words.split_first()?;
-    if d == 0 {
-        return None;
-    }
-    if *word < VARIABLES {
-        return lawful_rest(rest, rows, n - 1, d);
-    }
-    if *word < SYMBOL_WORD {
-        return None;
-    }
-    let arity = arity_of(rows, (*word - SYMBOL_WORD) as usize, Kind::Function)?;
-    let others = lawful_rest(rest, rows, arity, d - 1)?;
-    lawful_rest(others, rows, n - 1, d)
+    Some(rest)
 }
 
 /// How many arguments the word takes as the head of a literal, if it is one.

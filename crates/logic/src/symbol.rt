@@ -17,7 +17,7 @@ pub struct Symbol {
 pub fn is_name_byte(b: u8) -> bool
     ensures { result ≡ name_byte b }
 {
-    matches!(b, b'a'..=b'z' | b'0'..=b'9' | b'_')
+    b.is_ascii_lowercase() || b.is_ascii_digit() || b == b'_'
 }
 
 /// The record of a row: there is one exactly when the row's name and arity are lawful, and it has the row's parts.
