@@ -1,5 +1,5 @@
 -- A conclusion compared piece by piece.
-use Rattle.std.proofs.Common.{◌≡◌, ◌≢◌, ℕ, ◌+◌, ◌<◌, Bool, true, false, cond, List, ◌++◌, length, get_or, drop, Some, None, Option, Ok, Err, Result, MatchOption, MatchResult, IsTrue, sym, refl, ap, ◌∙◌}
+use Rattle.std.proofs.Common.{◌≡◌, ◌≢◌, ℕ, ◌+◌, ◌<◌, Bool, true, false, cond, List, ◌++◌, length, get_or, drop, Some, None, Option, Ok, Err, Result, IsTrue, sym, refl, ap, ◌∙◌}
 use mathlib.Core.List.{append_cancel_left}
 use Rattle.std.specs.List.{flat_map}
 use Rattle.std.specs.Option.{ok_or}
@@ -27,11 +27,6 @@ answered_test true (Ok u) h = refl
 answered_test true (Err f) h = absurd (h.1 refl)
 answered_test false (Ok u) h = absurd (false≢true h)
 answered_test false (Err f) h = ap (λ g. answered (Err g)) h.0
-
--- where there is nothing, the fault f
-pub refused : {A : Type 0} (N : Type 0) (P : A → Type 0) (f : RuleFault) (o : Option A) → MatchOption o N P → MatchResult (ok_or o f) P (λ g. (g ≡ f) × N)
-refused N P f None h = (refl, h)
-refused N P f (Some x) h = h
 
 pub some_found : {A : Type 0} (f : RuleFault) (o : Option A) (x : A) → Ok x ≡ ok_or o f → o ≡ Some x
 some_found f None x e = cc

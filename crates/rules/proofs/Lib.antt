@@ -15,3 +15,4 @@ pub mod HeldBindings
 pub mod InstanceWords
 pub mod InstantiateWords
 pub mod PropositionalWords
+pub mod Seen

@@ -29,13 +29,22 @@ pub(crate) fn bound_words(bindings: &Bindings, k: usize) -> &[u32]
 }
 
 /// Whether some variable is bound twice.
+// Marks by index, in one pass: to look among the variables before each is quadratic, and of `get_mut` the check loses what becomes of
+// the marks (tried).
 pub(crate) fn bound_twice(variables: &[u32]) -> bool
     ensures { Decides result (Repeats variables.now) }
 {
-    variables
-        .iter()
-        .enumerate()
-        .any(|(k, v)| *v < VARIABLES && variables[..k].contains(v))
+    let mut seen = [false; VARIABLES as usize];
+    for variable in variables {
+        if *variable < VARIABLES {
+            let v = *variable as usize;
+            if seen[v] {
+                return true;
+            }
+            seen[v] = true;
+        }
+    }
+    false
 }
 
 /// The number of the binding that binds the word, if it is a variable that is bound.

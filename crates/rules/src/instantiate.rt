@@ -2,15 +2,14 @@
 ghost use Rattle.std.specs.Prelude.{◌≡◌, ℕ, List, refl};
 ghost use Rattle.std.specs.List.{flat_map};
 ghost use Rattle.rules.specs.Images.{ReplacesWords};
-ghost use Rattle.rules.specs.Pieces.{Allows};
+ghost use Rattle.rules.specs.Pieces.{BeginsWith, Allows};
 ghost use Rattle.rules.specs.Six.{instantiate_rule};
 ghost use Rattle.rules.specs.Laws.{instantiate_keeps};
 
 use crate::bound::{binding_of, bound_twice, bound_variables, bound_words};
-use crate::pieces::{allow_if, behind};
+use crate::pieces::{allow_if, behind, behind_word};
 use bench::{Inference, Question, Rule, RuleFault, Shape};
 use reading::Bindings;
-use std::slice;
 
 /// The inference rule `instantiate`.
 #[derive(Clone, Copy)]
@@ -22,13 +21,18 @@ impl Inference for Instantiate {
     ghost sound = { instantiate_keeps };
 }
 
-/// What a word of the premise becomes: the words of its term where it is a variable that is bound, and else itself.
-fn image<'a>(word: &'a u32, bindings: &'a Bindings) -> &'a [u32]
-    ensures { (σ : ℕ → List ℕ) → ReplacesWords bindings.now σ → result.now ≡ σ word.now }
+/// The words behind what a word of the premise becomes, with which they begin: the words of its term where it is a variable that is bound, and
+/// else itself.
+fn behind_image<'a>(
+    words: &'a [u32],
+    word: u32,
+    bindings: &Bindings,
+) -> Result<&'a [u32], RuleFault>
+    ensures { (σ : ℕ → List ℕ) → ReplacesWords bindings.now σ → BeginsWith words.now (σ word) result }
 {
-    match binding_of(bound_variables(bindings), *word) {
-        Some(k) => bound_words(bindings, k),
-        None => slice::from_ref(word),
+    match binding_of(bound_variables(bindings), word) {
+        Some(k) => behind(words, bound_words(bindings, k)),
+        None => behind_word(words, word),
     }
 }
 
@@ -43,7 +47,7 @@ fn conclude_instance(
 {
     let mut rest = conclusion;
     for word in premise {
-        rest = behind(rest, image(word, bindings))?;
+        rest = behind_image(rest, *word, bindings)?;
     }
     allow_if(rest.is_empty())
 }

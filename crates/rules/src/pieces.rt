@@ -1,9 +1,10 @@
 //! Comparing a conclusion piece by piece, so that none is built.
-ghost use Rattle.std.specs.Prelude.{◌≡◌, ◌≢◌, ℕ, List, ◌++◌, IsTrue, MatchResult};
+ghost use Rattle.std.specs.Prelude.{◌≡◌, [], ◌∷◌, IsTrue};
 ghost use Rattle.std.specs.List.{flat_map};
-ghost use Rattle.rules.specs.Pieces.{Allows};
+ghost use Rattle.rules.specs.Pieces.{BeginsWith, Allows};
 
 use bench::RuleFault;
+use logic::same;
 
 /// Allows the conclusion where this holds.
 pub(crate) fn allow_if(holds: bool) -> Result<(), RuleFault>
@@ -16,11 +17,24 @@ pub(crate) fn allow_if(holds: bool) -> Result<(), RuleFault>
     }
 }
 
+/// The words behind the word with which they begin.
+pub(crate) fn behind_word(words: &[u32], word: u32) -> Result<&[u32], RuleFault>
+    ensures { BeginsWith words.now (word ∷ []) result }
+{
+    match words.split_first() {
+        Some((first, rest)) if *first == word => Ok(rest),
+        _ => Err(RuleFault::OtherConclusion),
+    }
+}
+
 /// The words behind the piece with which they begin.
 pub(crate) fn behind<'a>(words: &'a [u32], piece: &[u32]) -> Result<&'a [u32], RuleFault>
-    ensures { MatchResult result (λ rest. words.now ≡ piece.now ++ rest.now) (λ f. (f ≡ RuleFault.OtherConclusion) × ((rest : List ℕ) → words.now ≢ piece.now ++ rest)) }
+    ensures { BeginsWith words.now piece.now result }
 {
-    words.strip_prefix(piece).ok_or(RuleFault::OtherConclusion)
+    match words.split_at_checked(piece.len()) {
+        Some((front, rest)) if same(front, piece) => Ok(rest),
+        _ => Err(RuleFault::OtherConclusion),
+    }
 }
 
 /// Allows a conclusion whose words are the pieces, one after another.

@@ -5,11 +5,11 @@ use Rattle.rules.proofs.instantiate.conclude_instance.Goals as goal
 pub loop-word-preserved : goal.loop-word-preserved
 loop-word-preserved c σ s =
     behind_more σ c.args.premise.now c.args.conclusion.now c.loop-word.word-index c.loop-word.rest.now (c.loop-word.invariant σ s) 0 (omega arith)
-    c.in_ok-rest.rest.now (rw (c.image.ensures σ s) at c.in_ok-rest.ensures)
+    c.in_ok-rest.rest.now (c.in_ok-rest.ensures σ s)
 
 pub returns-in_err-rest : goal.returns-in_err-rest
 returns-in_err-rest c σ s =
-    let n = behind_stops σ c.args.premise.now c.args.conclusion.now c.loop-word.word-index c.loop-word.rest.now (c.loop-word.invariant σ s) 0 (omega arith)
-    (rw (c.image.ensures σ s) at c.in_err-rest.ensures.1) in
+    let w = c.in_err-rest.ensures σ s in
+    let n = behind_stops σ c.args.premise.now c.args.conclusion.now c.loop-word.word-index c.loop-word.rest.now (c.loop-word.invariant σ s) 0 (omega arith) w.1 in
     let e : c.from_residual.result ≡ Err c.in_err-rest.field-0.0 = search rules in
-    rw e (c.in_err-rest.ensures.0, n)
+    rw e (w.0, n)
