@@ -1,4 +1,4 @@
--- What resolve allows follows: under a valuation the two literals are not yes_and true, so another literal is.
+-- What resolve allows follows: under a valuation the two literals are not both true, so another literal is.
 use Rattle.std.proofs.Common.{◌≡◌, ℕ, not, T, [], ◌∷◌, ◌++◌, sym, subst}
 use Rattle.std.proofs.Math.Facts.{and_yes}
 use mathlib.Core.Bool.{beq}
