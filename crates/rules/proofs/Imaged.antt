@@ -3,7 +3,6 @@ use Rattle.std.proofs.Common.{◌≡◌, ℕ, ◌<◌, List, [], ◌∷◌, leng
 use Rattle.std.proofs.lemmas.List.{length-take-le, get_or-take}
 use Rattle.reading.specs.declared.bindings.Bindings.{Bindings}
 use Rattle.reading.specs.Limits as limits
-use Rattle.reading.specs.Bindings.{held_at}
 use Rattle.rules.specs.Images.{StandsAt, ReplacesWords}
 
 module _ (b : Bindings) (vs : List ℕ) (e : vs ≡ take b.count b.variables) (long : length b.variables ≡ limits.bindings) (σ : ℕ → List ℕ)
@@ -14,13 +13,6 @@ module _ (b : Bindings) (vs : List ℕ) (e : vs ≡ take b.count b.variables) (l
 
   variable_at : (k : ℕ) → k < b.count → get_or vs k 0 ≡ get_or b.variables k 0
   variable_at k h = ap (λ (xs : List ℕ). get_or xs k 0) e ∙ get_or-take b.count b.variables k 0 h
-
-  -- a bound variable becomes the words of its binding
-  pub bound_becomes : (w k : ℕ) → StandsAt vs w k → (held_at b k).words ≡ σ w
-  bound_becomes w k h =
-      let n : k < b.count = omega (arith, h.0, counted) in
-      let v : get_or b.variables k 0 ≡ w = sym (variable_at k n) ∙ h.1 in
-      sym (s.bound k n (omega (arith, v, h.2))) ∙ ap σ v
 
   -- any other word stays
   pub other_stays : (w : ℕ) → ((k : ℕ) → StandsAt vs w k → ⊥) → w ∷ [] ≡ σ w
